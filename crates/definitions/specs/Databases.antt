@@ -1,0 +1,50 @@
+-- What a folder of files says of a table.
+use Rattle.std.specs.Prelude.{◌≡◌, ℕ, ◌≤◌, ◌⊎◌, List, ◌∷◌, ◌++◌, length, codes, Option, Some}
+use Rattle.definitions.specs.Columns.{max_rows, word_bytes, IsPlainFile}
+use Rattle.definitions.specs.Names.{now_file_name, column_file_name}
+
+-- files by their names
+abbrev pub Files : Type 0
+Files = List ℕ → Option (List ℕ)
+
+-- how many bytes are read of a now file and of a column file at most
+abbrev pub max_now_file : ℕ
+max_now_file = 13
+
+abbrev pub max_column_file : ℕ
+max_column_file = 4294967296
+
+-- the file is there, and not too long
+pub record Holds (files : Files) (name : List ℕ) (limit : ℕ) (bytes : List ℕ) : Type 0 where
+  pub there : files name ≡ Some bytes
+  pub short : length bytes ≤ limit
+
+-- where a table's rows stand now: its slot, the letter `a` or `b`, and how many there are
+pub record Now : Type 0 where
+  pub slot : ℕ
+  pub rows : ℕ
+
+abbrev pub IsSlot : ℕ → Type 0
+IsSlot letter = (letter ≡ 97) ⊎ (letter ≡ 98)
+
+-- the 13 bytes of a now file
+abbrev pub now_file : Now → List ℕ
+now_file now = codes "MNOW" ++ now.slot ∷ word_bytes now.rows
+
+pub record IsNowFile (bytes : List ℕ) (now : Now) : Type 0 where
+  pub slot : IsSlot now.slot
+  pub few : now.rows ≤ max_rows
+  pub spelled : bytes ≡ now_file now
+
+-- the table's now file says so
+pub record StandsAt (files : Files) (table : List ℕ) (now : Now) : Type 0 where
+  pub bytes : List ℕ
+  pub held : Holds files (now_file_name table) max_now_file bytes
+  pub lawful : IsNowFile bytes now
+
+-- the column's file in the table's slot has these values, one for each row
+pub record Stores (files : Files) (table : List ℕ) (now : Now) (column : List ℕ) (values : List ℕ) : Type 0 where
+  pub bytes : List ℕ
+  pub held : Holds files (column_file_name table now.slot column) max_column_file bytes
+  pub lawful : IsPlainFile bytes values
+  pub whole : length values ≡ now.rows

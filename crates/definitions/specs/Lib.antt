@@ -1,0 +1,11 @@
+pub mod Faults
+pub mod Columns
+pub mod Operators
+pub mod Names
+pub mod Tokens
+pub mod Queries
+pub mod Databases
+pub mod Sums
+pub mod Outcomes
+pub mod Replies
+pub mod Headline

@@ -1,0 +1,10 @@
+//! Selections and projections over columns.
+//!
+//! A position list is a rising list of rows, counted from 0. The plain forms here work on whole slices.
+#![tactic(auto)]
+
+mod projection;
+mod selection;
+
+pub use projection::project;
+pub use selection::select;

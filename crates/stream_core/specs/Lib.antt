@@ -1,0 +1,4 @@
+pub mod Calls
+pub mod Stores
+pub mod Memory
+pub mod Entries
