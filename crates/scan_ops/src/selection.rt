@@ -1,7 +1,7 @@
 //! Selections: the rows whose value is in a range.
 
 ghost use Rattle.std.specs.Prelude.{◌≡◌, ◌<◌, All, length, IfOk};
-ghost use Rattle.std.specs.List.{IsStrictlyIncreasing};
+ghost use Rattle.std.specs.List.Sorted.{IsStrictlyIncreasing};
 ghost use Rattle.definitions.specs.Operators.{positions_in};
 
 use std::alloc::{AllocError, Global};
