@@ -226,13 +226,14 @@ impl MemStore {
         ensures calls { calls_of self.new ≡ next_count (calls_of self.old) }
         ensures failing { failing_of self.new ≡ failing_of self.old }
         ensures faults { faults_of self.new ≡ faults_after (failing_of self.old) (calls_of self.old) (faults_of self.old) }
+        ensures later { faults_of self.old ≤ faults_of self.new }
+        ensures count { faults_of self.new < 2 ^ 64 }
     {
         let call = self.calls;
-        self.calls = call.saturating_add(1);
+        let faults = self.faults;
         let fails = is_failing(self.failing.as_slice(), call);
-        if fails {
-            self.faults = self.faults.saturating_add(1);
-        }
+        self.calls = call.saturating_add(1);
+        self.faults = if fails { faults.saturating_add(1) } else { faults };
         fails
     }
 }
