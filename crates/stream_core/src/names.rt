@@ -31,7 +31,8 @@ impl Name {
     }
 
     pub fn as_str(&self) -> &str
-        ensures { result.now ≡ self.now }
+        ensures text { result.now ≡ self.now }
+        ensures short { length result.now ≤ max_name }
     {
         self.text.as_str()
     }
@@ -62,7 +63,8 @@ impl FileName {
     }
 
     pub fn as_str(&self) -> &str
-        ensures { result.now ≡ self.now }
+        ensures text { result.now ≡ self.now }
+        ensures short { length result.now ≤ max_file_name }
     {
         self.text.as_str()
     }
