@@ -1,5 +1,5 @@
 -- What the top call promises.
-use Rattle.std.specs.Prelude.{◌≡◌, ◌≢◌, ℕ, ◌⊎◌, List, codes, Option, Some, None}
+use Rattle.std.specs.Prelude.{◌≡◌, ◌≢◌, ℕ, ◌<◌, ◌⊎◌, List, length, take, codes, Option, Some, None}
 use Rattle.std.specs.Io.KnownBytes.{Keeps, Appends, IsAtEnd}
 use Rattle.definitions.specs.Faults.{Rose}
 use Rattle.definitions.specs.Databases.{Files}
@@ -52,6 +52,26 @@ SomeRose before after =
 -- A fault is answered only where a call failed.
 abbrev pub HasFault : Outside → Outside → ℕ → Type 0
 HasFault before after status = status ≡ 3 → SomeRose before after
+
+-- the output took a proper prefix of the text, since a write failed
+pub record IsCutOff (before after : Outside) (text : List ℕ) : Type 0 where
+  pub fault : Rose before.output_faults after.output_faults
+  pub count : ℕ
+  pub short : count < length text
+  pub taken : Appends before.output after.output (take count text)
+
+-- one of the lines of faults, whole or cut off
+abbrev pub SaysLine : Outside → Outside → List ℕ → Type 0
+SaysLine before after line = Appends before.output after.output line ⊎ IsCutOff before after line
+
+-- At a fault the output has the line of the store's or the input's fault, or a proper prefix of it or of what was to be
+-- written: the reply's text, or the line that says want of memory.
+pub data SaysFault (words : List (List ℕ)) (before after : Outside) : Type 0 where
+  store : Rose before.store_faults after.store_faults → SaysLine before after (codes "fault: store\n") → SaysFault words before after
+  input : Rose before.input_faults after.input_faults → SaysLine before after (codes "fault: input\n") → SaysFault words before after
+  reply : ((files : Files) (text : List ℕ) → before.files ≡ Some files → before.input ≡ Some text →
+      (reply : Reply) × Replies words files text reply × IsCutOff before after reply.text) → SaysFault words before after
+  memory : IsCutOff before after (codes "memory\n") → SaysFault words before after
 
 -- Want of memory is said, and nothing else.
 abbrev pub SaysMemory : Outside → Outside → ℕ → Type 0

@@ -1,0 +1,104 @@
+//! The now file of a table: `MNOW`, the letter of a slot, and a row count of 8 bytes, the little end first.
+
+ghost use Rattle.std.specs.Prelude.{◌≡◌, drop, length, MatchOption};
+ghost use Rattle.std.specs.Int.{from_le_bytes, w64};
+ghost use Rattle.definitions.specs.Databases as databases;
+ghost use Rattle.definitions.specs.Databases.{IsSlot, now_file, IsNowFile};
+ghost use Rattle.engine_tool.specs.Tables.{letter_of, now_view};
+
+/// Which of a table's two sets of files holds its rows.
+#[derive(Clone, Copy, Debug, PartialEq, Eq)]
+pub enum Slot {
+    A,
+    B,
+}
+
+impl Slot {
+    pub fn letter(self) -> u8
+        ensures { result ≡ letter_of self }
+    {
+        match self {
+            Slot::A => b'a',
+            Slot::B => b'b',
+        }
+    }
+}
+
+/// Where a table's rows stand, and how many there are.
+#[derive(Clone, Copy, Debug, PartialEq, Eq)]
+pub struct Now {
+    pub slot: Slot,
+    pub rows: u64,
+}
+
+/// How many rows a table has at most.
+const MAX_ROWS: u64 = 268_435_456;
+
+/// How many bytes a now file has, and where its row count begins.
+const NOW_LEN: usize = 13;
+
+const ROWS_AT: usize = 5;
+
+/// The slot of a letter.
+fn slot_of(letter: u8) -> Option<Slot>
+    ensures { MatchOption result (IsSlot letter → ⊥) (λ slot. letter ≡ letter_of slot) }
+{
+    match letter {
+        b'a' => Some(Slot::A),
+        b'b' => Some(Slot::B),
+        _ => None,
+    }
+}
+
+/// The last eight bytes as a number.
+fn rows_in(bytes: &[u8]) -> u64
+    requires { length bytes.now ≡ 13 }
+    ensures { result ≡ from_le_bytes w64 (drop 5 bytes.now) }
+{
+    let rows = bytes.split_at(ROWS_AT).1;
+    u64::from_le_bytes([
+        rows[0], rows[1], rows[2], rows[3], rows[4], rows[5], rows[6], rows[7],
+    ])
+}
+
+/// The now file of a slot and a row count.
+#[tactic(auto, unfolding(definitions::specs::Columns::word_bytes))]
+fn now_file(slot: Slot, rows: u64) -> [u8; 13]
+    ensures { result ≡ now_file (now_view (record { slot = slot; rows = rows })) }
+{
+    let [a, b, c, d, e, f, g, h] = rows.to_le_bytes();
+    [
+        b'M',
+        b'N',
+        b'O',
+        b'W',
+        slot.letter(),
+        a,
+        b,
+        c,
+        d,
+        e,
+        f,
+        g,
+        h,
+    ]
+}
+
+/// What a now file says, where the bytes are one: they are compared with the file of the slot and the count that they name.
+pub fn read_now(bytes: &[u8]) -> Option<Now>
+    ensures { MatchOption result ((now : databases.Now) → IsNowFile bytes.now now → ⊥)
+        (λ now. IsNowFile bytes.now (now_view now)) }
+{
+    if bytes.len() != NOW_LEN {
+        return None;
+    }
+    let slot = slot_of(bytes[4])?;
+    let rows = rows_in(bytes);
+    if rows > MAX_ROWS {
+        return None;
+    }
+    if bytes != now_file(slot, rows).as_slice() {
+        return None;
+    }
+    Some(Now { slot, rows })
+}

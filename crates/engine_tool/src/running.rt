@@ -1,0 +1,64 @@
+//! The top call.
+
+ghost use Rattle.std.specs.Prelude.{◌≡◌, map, string_bytes};
+ghost use Rattle.definitions.specs.Headline.{IsReplied, ReadsInput, ChangesNoFile, HasFault, SaysFault, SaysMemory, IsComplete};
+ghost use Rattle.engine_tool.specs.Runs.{outside, IsWritten};
+
+use crate::replies::reply;
+use crate::stops::Stop;
+use std::alloc::Global;
+use stream_core::{Bytes, Failed, Sink, Source, Store, write_all};
+
+/// The status of a failed call.
+const FAULT: u8 = 3;
+
+/// Writes an answer or a stop's line, and gives the exit status.
+fn respond<O: Sink>(out: &mut O, end: Result<Bytes, Stop>) -> u8
+    ensures { IsWritten end (O.taken out.old) (O.taken out.new) (O.faults out.old) (O.faults out.new) result }
+{
+    let (status, written) = match end {
+        Ok(text) => (0, write_all(out, text.as_slice())),
+        Err(stop) => (stop.status(), write_all(out, stop.line().as_bytes())),
+    };
+    match written {
+        Ok(()) => status,
+        Err(Failed) => FAULT,
+    }
+}
+
+/// Does what the words say, over the files of `store`, with the text of `input`, and writes the answer or one line that
+/// says why there is none to `out`. The result is the exit status: 0 where the whole answer was taken, 1 where the text is
+/// no query, 2 where the words are no command, 3 after a call that failed, 4 where the table doesn't open, 5 where a sum
+/// is too wide, and 6 where memory was refused.
+pub fn run<S: Store, I: Source, O: Sink>(
+    alloc: Global,
+    words: &[String],
+    store: &mut S,
+    input: &mut I,
+    out: &mut O,
+) -> u8
+    ensures reply { IsReplied (map string_bytes words.now)
+        (outside (S.files store.old) (S.faults store.old) (I.left input.old) (I.faults input.old) (O.taken out.old) (O.faults out.old))
+        (outside (S.files store.new) (S.faults store.new) (I.left input.new) (I.faults input.new) (O.taken out.new) (O.faults out.new)) result }
+    ensures input { ReadsInput (map string_bytes words.now)
+        (outside (S.files store.old) (S.faults store.old) (I.left input.old) (I.faults input.old) (O.taken out.old) (O.faults out.old))
+        (outside (S.files store.new) (S.faults store.new) (I.left input.new) (I.faults input.new) (O.taken out.new) (O.faults out.new)) result }
+    ensures files { ChangesNoFile
+        (outside (S.files store.old) (S.faults store.old) (I.left input.old) (I.faults input.old) (O.taken out.old) (O.faults out.old))
+        (outside (S.files store.new) (S.faults store.new) (I.left input.new) (I.faults input.new) (O.taken out.new) (O.faults out.new)) }
+    ensures fault { HasFault
+        (outside (S.files store.old) (S.faults store.old) (I.left input.old) (I.faults input.old) (O.taken out.old) (O.faults out.old))
+        (outside (S.files store.new) (S.faults store.new) (I.left input.new) (I.faults input.new) (O.taken out.new) (O.faults out.new)) result }
+    ensures fault_text { result ≡ 3 → SaysFault (map string_bytes words.now)
+        (outside (S.files store.old) (S.faults store.old) (I.left input.old) (I.faults input.old) (O.taken out.old) (O.faults out.old))
+        (outside (S.files store.new) (S.faults store.new) (I.left input.new) (I.faults input.new) (O.taken out.new) (O.faults out.new)) }
+    ensures memory { SaysMemory
+        (outside (S.files store.old) (S.faults store.old) (I.left input.old) (I.faults input.old) (O.taken out.old) (O.faults out.old))
+        (outside (S.files store.new) (S.faults store.new) (I.left input.new) (I.faults input.new) (O.taken out.new) (O.faults out.new)) result }
+    ensures complete { IsComplete (map string_bytes words.now)
+        (outside (S.files store.old) (S.faults store.old) (I.left input.old) (I.faults input.old) (O.taken out.old) (O.faults out.old))
+        (outside (S.files store.new) (S.faults store.new) (I.left input.new) (I.faults input.new) (O.taken out.new) (O.faults out.new)) result }
+{
+    let end = reply(alloc, words, store, input);
+    respond(out, end)
+}
