@@ -11,5 +11,24 @@ pub fn project(alloc: Global, values: &[u64], places: &[u64]) -> Result<List<u64
     requires { All (λ place. place < length values.now) places.now }
     ensures { IfOk result (λ found. found ≡ values_at values.now places.now) }
 {
-    Err(AllocError)
+    let mut found = Vec::with_capacity(alloc, places.len())?;
+    for place in places {
+        found.push(values[*place as usize])?;
+    }
+    Ok(List::from_vec(found))
+}
+
+#[cfg(test)]
+mod tests {
+    use super::*;
+    use std::test::Fail;
+
+    #[test]
+    fn places_may_fall_and_come_back(rt: HostRuntime) -> Result<(), Fail> {
+        let found = project(rt.alloc(), &[10, 20, 30], &[2, 0, 2])?;
+        assert_eq!(rt; found.as_slice(), [30, 10, 30].as_slice());
+        let none = project(rt.alloc(), &[10, 20, 30], &[])?;
+        assert_eq!(rt; none.as_slice().len(), 0);
+        Ok(())
+    }
 }

@@ -1,11 +1,17 @@
 //! Selections: the rows whose value is in a range.
+//!
+//! A branch on values in no order is guessed wrong every other time, which costs more than all the rest. So each row of a
+//! block is written into room on the stack, where the next row takes its place unless the value was in the range.
 
-ghost use Rattle.std.specs.Prelude.{◌≡◌, ◌<◌, All, length, IfOk};
+ghost use Rattle.std.specs.Prelude.{◌≡◌, ◌+◌, ◌^◌, ◌<◌, ◌≤◌, ◌++◌, All, take, length, IfOk, OnOk};
 ghost use Rattle.std.specs.List.Sorted.{IsStrictlyIncreasing};
-ghost use Rattle.definitions.specs.Operators.{positions_in};
+ghost use Rattle.definitions.specs.Operators.{is_within, positions_from, positions_in};
 
 use std::alloc::{AllocError, Global};
 use stream_core::List;
+
+/// How many rows are written before those that stay are appended. Their 8 KiB stay in the nearest cache.
+const BLOCK_LEN: usize = 1024;
 
 /// The position list of the values from `low` to `high`. The lane width `L` changes nothing in the result.
 pub fn select<const L: usize>(
@@ -18,5 +24,94 @@ pub fn select<const L: usize>(
     ensures within { IfOk result (λ positions. All (λ position. position < length values.now) positions) }
     ensures rising { IfOk result IsStrictlyIncreasing }
 {
-    Err(AllocError)
+    let positions = positions_of(alloc, values, low, high)?;
+    Ok(List::from_vec(positions))
+}
+
+#[tactic(auto, using(crate::proofs::PositionsLemmas::positions_in_none))]
+fn positions_of(alloc: Global, values: &[u64], low: u64, high: u64) -> Result<Vec<u64>, AllocError>
+    ensures { IfOk result (λ positions. positions.items ≡ positions_in low high values.now) }
+{
+    let mut positions = Vec::new(alloc);
+    if low <= high {
+        append_positions(&mut positions, values, low, high)?;
+    }
+    Ok(positions)
+}
+
+fn append_positions(
+    positions: &mut Vec<u64>,
+    values: &[u64],
+    low: u64,
+    high: u64,
+) -> Result<(), AllocError>
+    requires { low ≤ high }
+    ensures { OnOk result (positions.new.items ≡ positions.old.items ++ positions_in low high values.now) }
+{
+    let mut rows = [0; BLOCK_LEN];
+    let mut first = 0;
+    while first < values.len() {
+        let end = first + BLOCK_LEN.min(values.len() - first);
+        let kept = mark(&values[first..end], first as u64, low, high, &mut rows);
+        positions.extend_from_slice(&rows[..kept])?;
+        first = end;
+    }
+    Ok(())
+}
+
+/// Writes the rows of the values in the range to the front of the room, and says how many they are.
+fn mark(values: &[u64], first: u64, low: u64, high: u64, rows: &mut [u64]) -> usize
+    requires order { low ≤ high }
+    requires room { length values.now ≤ length rows.old }
+    requires fits { first + length values.now < 2 ^ 64 }
+    ensures count { result ≤ length values.now }
+    ensures rows { take result rows.new ≡ positions_from first low high values.now }
+{
+    let mut kept = 0;
+    let mut row = first;
+    for value in values {
+        rows[kept] = row;
+        row += 1;
+        kept += usize::from(is_within(*value, low, high));
+    }
+    kept
+}
+
+/// One comparison does for two, since the difference to `low` wraps around for what is below it.
+fn is_within(value: u64, low: u64, high: u64) -> bool
+    requires { low ≤ high }
+    ensures { result ≡ is_within low high value }
+{
+    value.wrapping_sub(low) <= high - low
+}
+
+#[cfg(test)]
+mod tests {
+    use super::*;
+    use std::test::Fail;
+
+    #[test]
+    fn both_ends_of_a_range_are_in_it(rt: HostRuntime) -> Result<(), Fail> {
+        let values = [2, 3, 5, 7, 8];
+        let some = select::<1>(rt.alloc(), &values, 3, 7)?;
+        assert_eq!(rt; some.as_slice(), [1, 2, 3].as_slice(), "from 3 to 7");
+        let other_width = select::<3>(rt.alloc(), &values, 3, 7)?;
+        assert_eq!(rt;
+            other_width.as_slice(),
+            [1, 2, 3].as_slice(),
+            "from 3 to 7, three lanes"
+        );
+        let none = select::<16>(rt.alloc(), &values, 7, 3)?;
+        assert_eq!(rt; none.as_slice().len(), 0, "from 7 to 3");
+        Ok(())
+    }
+
+    #[test]
+    fn rows_go_on_behind_a_block(rt: HostRuntime) -> Result<(), Fail> {
+        let mut values = vec![in rt.alloc(); 0; 1024]?;
+        values.extend_from_slice(&[u64::MAX, 0, u64::MAX])?;
+        let found = select::<8>(rt.alloc(), values.as_slice(), 1, u64::MAX)?;
+        assert_eq!(rt; found.as_slice(), [1024, 1026].as_slice());
+        Ok(())
+    }
 }

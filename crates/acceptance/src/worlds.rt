@@ -1,0 +1,57 @@
+//! A database in memory, and one command over it.
+
+use column_core::encode_plain;
+use engine_tool::run;
+use std::alloc::{AllocError, Global};
+use stream_core::{Bytes, List, MemSink, MemSource, MemStore};
+
+/// The now file of slot `a` and so many rows, fewer than 256.
+pub fn now_file(rows: u8) -> [u8; 13] {
+    [
+        b'M', b'N', b'O', b'W', b'a', rows, 0, 0, 0, 0, 0, 0, 0,
+    ]
+}
+
+/// The files of table `t` with five rows: `a` is 10, 20, 30, 40, 50 and `b` is 2, 3, 5, 7, 8.
+pub fn put_example(alloc: Global, store: &mut MemStore) -> Result<(), AllocError> {
+    store.put(alloc, "t.now", &now_file(5))?;
+    let a = encode_plain(alloc, &[10, 20, 30, 40, 50])?;
+    store.put(alloc, "t.a.a.col", a.as_slice())?;
+    let b = encode_plain(alloc, &[2, 3, 5, 7, 8])?;
+    store.put(alloc, "t.a.b.col", b.as_slice())
+}
+
+/// A list of numbers.
+pub fn numbers(alloc: Global, numbers: &[u64]) -> Result<List<u64>, AllocError> {
+    Ok(List::from_vec(Vec::from_slice(alloc, numbers)?))
+}
+
+/// The example's files, with no failing call.
+pub fn example(alloc: Global) -> Result<MemStore, AllocError> {
+    let mut store = MemStore::new(alloc, List::from_vec(Vec::new(alloc)));
+    put_example(alloc, &mut store)?;
+    Ok(store)
+}
+
+/// An input of this text, handed out in pieces of seven bytes, and an output with room.
+pub fn source(alloc: Global, text: &[u8]) -> Result<MemSource, AllocError> {
+    let bytes: Bytes = List::from_vec(Vec::from_slice(alloc, text)?);
+    Ok(MemSource::new(bytes, 7, List::from_vec(Vec::new(alloc))))
+}
+
+pub fn sink(alloc: Global) -> Result<MemSink, AllocError> {
+    MemSink::new(alloc, 100, List::from_vec(Vec::new(alloc)))
+}
+
+/// The status and the output of `query` over these files.
+pub fn query(
+    alloc: Global,
+    store: &mut MemStore,
+    text: &[u8],
+) -> Result<(u8, Vec<u8>), AllocError> {
+    let words = [String::from_str(alloc, "query")?];
+    let mut input = source(alloc, text)?;
+    let mut out = sink(alloc)?;
+    let status = run(alloc, &words, store, &mut input, &mut out);
+    Ok((status, Vec::from_slice(alloc, out.taken())?))
+}
