@@ -9,3 +9,6 @@ pub mod Sums
 pub mod Outcomes
 pub mod Replies
 pub mod Headline
+pub mod Blocks
+pub mod Packed
+pub mod Steps

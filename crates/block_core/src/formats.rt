@@ -1,0 +1,66 @@
+//! The names and tags of the formats.
+
+ghost use Rattle.std.specs.Prelude.{◌≡◌};
+ghost use Rattle.block_core.specs.Formats.{tag_of, name_of};
+
+/// How the blocks of a column are spelled, in the order of the tags in column files.
+#[derive(Clone, Copy, Debug, PartialEq, Eq, PartialOrd, Ord, Hash)]
+pub enum Format {
+    /// 1,024 words.
+    Plain,
+    /// Packed at one width for the whole column.
+    Static,
+    /// Packed at the block's own width, which stands before it.
+    Dynamic,
+    /// Values and how often each repeats.
+    Runs,
+    /// The differences of neighbours, packed.
+    Delta1Dynamic,
+    /// The differences to the value 16 places before, packed.
+    Delta16Dynamic,
+    /// The differences to the block's least value, packed.
+    ReferenceDynamic,
+    /// The runs of the differences of neighbours.
+    Delta1Runs,
+}
+
+impl Format {
+    /// The tag in a column file's head.
+    pub fn tag(self) -> u8
+        ensures { result ≡ tag_of self }
+    {
+        match self {
+            Format::Plain => 0,
+            Format::Static => 1,
+            Format::Dynamic => 2,
+            Format::Runs => 3,
+            Format::Delta1Dynamic => 4,
+            Format::Delta16Dynamic => 5,
+            Format::ReferenceDynamic => 6,
+            Format::Delta1Runs => 7,
+        }
+    }
+
+    /// The name in schemas, strategies and answers.
+    pub fn name(self) -> &'static str
+        ensures { result.now ≡ name_of self }
+    {
+        match self {
+            Format::Plain => "plain",
+            Format::Static => "static",
+            Format::Dynamic => "dynamic",
+            Format::Runs => "runs",
+            Format::Delta1Dynamic => "delta1+dynamic",
+            Format::Delta16Dynamic => "delta16+dynamic",
+            Format::ReferenceDynamic => "reference+dynamic",
+            Format::Delta1Runs => "delta1+runs",
+        }
+    }
+}
+
+/// A format, or the one that makes the column's file shortest.
+#[derive(Clone, Copy, Debug, PartialEq, Eq, Hash)]
+pub enum FormatChoice {
+    Fixed(Format),
+    Auto,
+}

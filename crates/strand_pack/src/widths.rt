@@ -1,0 +1,14 @@
+//! The width of a block.
+
+ghost use Rattle.std.specs.Prelude.{◌≤◌};
+ghost use Rattle.definitions.specs.Packed.{IsWidth};
+
+use block_core::Block;
+
+/// The least width that holds all the values of the block, full or not.
+pub fn width_of(block: &Block) -> u8
+    ensures least { IsWidth result block.now }
+    ensures narrow { result ≤ 64 }
+{
+    ..
+}
