@@ -51,6 +51,24 @@ impl Block {
         self.values.push(value);
     }
 
+    /// Makes the block full, whatever it holds, so that all of it can be written in place. On a full block it does nothing.
+    pub fn fill(&mut self)
+        ensures { length self.new ≡ block_len }
+    {
+        for _ in self.values.len()..BLOCK_LEN {
+            self.values.push(0);
+        }
+    }
+
+    /// The values, to be written in place: with `fill` the fast way to make a block. What is written is the block once the
+    /// borrow ends, and its length stays.
+    pub fn as_mut_slice(&mut self) -> &mut [u64]
+        ensures* writes_back { sem 𝓛 (Lends the_row (Array word 0) self.entry result (refill (length self.old) self.old)) }
+        ensures value { result.now ≡ self.old }
+    {
+        self.values.as_mut_slice()
+    }
+
     pub fn as_slice(&self) -> &[u64]
         ensures values { result.now ≡ self.now }
         ensures short { length result.now ≤ block_len }
