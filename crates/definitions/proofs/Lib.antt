@@ -1,3 +1,5 @@
+pub mod BitLaws
 pub mod WordLaws
 pub mod PlainLaws
+pub mod PackedLaws
 pub mod SumLaws
