@@ -4,6 +4,8 @@ ghost use Rattle.std.specs.Prelude.{◌≡◌, ℕ, ◌*◌, ◌<◌, ◌≤◌,
 ghost use Rattle.definitions.specs.Blocks.{block_len};
 ghost use Rattle.definitions.specs.Packed.{IsPacked};
 
+use crate::words::{STRANDS, WORD_BITS, word_at};
+
 /// The value at a place of the block that these `128 * width` bytes are at the width. It reads two words at most, and
 /// unpacks nothing.
 pub fn pick(bytes: &[u8], width: u8, place: usize) -> u64
@@ -12,5 +14,19 @@ pub fn pick(bytes: &[u8], width: u8, place: usize) -> u64
     requires within { place < block_len }
     ensures { (values : List ℕ) → IsPacked width values bytes.now → result ≡ slice_index values place }
 {
-    ..
+    if width == 0 {
+        return 0;
+    }
+    let start = place / STRANDS * width as usize;
+    let word = start / WORD_BITS * STRANDS + place % STRANDS;
+
+    // In the strand's last word a value ends there, and any word may stand for the next.
+    let next = if word + STRANDS < STRANDS * width as usize {
+        word + STRANDS
+    } else {
+        word
+    };
+    let both = u128::from(word_at(bytes, word)) | u128::from(word_at(bytes, next)) << 64;
+    let mask = u128::from(u64::MAX >> (64 - width));
+    ((both >> (start % WORD_BITS)) & mask) as u64
 }

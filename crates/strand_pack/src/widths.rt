@@ -10,5 +10,9 @@ pub fn width_of(block: &Block) -> u8
     ensures least { IsWidth result block.now }
     ensures narrow { result ≤ 64 }
 {
-    ..
+    let mut all: u64 = 0;
+    for value in block.as_slice() {
+        all |= *value;
+    }
+    (64 - all.leading_zeros()) as u8
 }

@@ -1,0 +1,5 @@
+pub mod WordBits
+pub mod Fields
+pub mod Values
+pub mod LaneLaws
+pub mod WidthLaws

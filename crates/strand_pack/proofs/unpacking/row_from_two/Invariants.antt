@@ -1,0 +1,7 @@
+-- The strands before the group are read.
+use Rattle.std.proofs.Common.{◌≡◌, ℕ, ◌+◌, ◌-◌, ◌*◌, ◌/◌, ◌%◌, ◌^◌, ◌<◌, get_or, bit_and, bit_or}
+use Rattle.strand_pack.specs.Words.{word_of}
+use Rattle.strand_pack.proofs.unpacking.row_from_two.Given as goal
+
+abbrev pub invariant-loop-group : goal.invariant-loop-group
+invariant-loop-group g l = (k : ℕ) → k < l.group * g.row.L → get_or l.into k 0 ≡ bit_and (bit_or (word_of l.bytes (l.place + k) / 2 ^ l.offset) (word_of l.bytes (l.place + 16 + k) * 2 ^ (64 - l.offset) % 2 ^ 64)) l.mask

@@ -1,0 +1,22 @@
+-- Words of a packed block, as the code reads and writes them.
+use Rattle.std.specs.Prelude.{◌≡◌, ℕ, ◌+◌, ◌*◌, ◌/◌, ◌%◌, ◌^◌, ◌<◌, ◌≤◌, List, take, drop, slice_index}
+use Rattle.std.specs.Int.{bit_at, from_le_bytes, w64}
+use Rattle.definitions.specs.Packed.{strand_bit}
+
+-- word j: eight bytes, the little end first
+unfoldable pub word_of : List ℕ → ℕ → ℕ
+word_of bytes j = from_le_bytes w64 (take 8 (drop (8 * j) bytes))
+
+-- as many bits as the width says of two words in a row, from the offset on
+unfoldable pub field : ℕ → ℕ → ℕ → ℕ → ℕ
+field low high offset width = (high * 2 ^ 64 + low) / 2 ^ offset % 2 ^ width
+
+-- the value in a row of a strand, read from the word that it begins in and the strand's next
+unfoldable pub value_in : List ℕ → ℕ → ℕ → ℕ → ℕ
+value_in bytes width row strand =
+    let start = row * width in
+    field (word_of bytes (start / 64 * 16 + strand)) (word_of bytes ((start / 64 + 1) * 16 + strand)) (start % 64) width
+
+-- the strands from the first on, up to the last and without it, spell their values
+pub record AreSpelled (width first last : ℕ) (values bytes : List ℕ) : Type 0 where
+  pub bits : (strand row b : ℕ) → first ≤ strand → strand < last → row < 64 → b < width → bit_at (slice_index values (row * 16 + strand)) b ≡ strand_bit bytes strand (row * width + b)
