@@ -8,8 +8,14 @@
 
 mod blocks;
 mod counts;
+mod emitters;
 mod formats;
+mod packings;
+mod sources;
 
 pub use blocks::Block;
 pub use counts::{Own, Steps};
+pub use emitters::Emit;
 pub use formats::{Format, FormatChoice};
+pub use packings::{BlockRef, Packing, Transform};
+pub use sources::{BlockSource, PlaceSource};
