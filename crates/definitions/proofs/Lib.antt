@@ -1,3 +1,4 @@
 pub mod WordLaws
 pub mod PlainLaws
 pub mod SumLaws
+pub mod WorkedExamples
