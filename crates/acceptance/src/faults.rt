@@ -74,9 +74,7 @@ fn a_failed_write_leaves_a_proper_prefix(rt: HostRuntime) -> Result<(), Fail> {
 }
 
 #[test]
-fn a_failed_load_and_a_failed_write_leave_a_part_of_the_line(
-    rt: HostRuntime,
-) -> Result<(), Fail> {
+fn a_failed_load_and_a_failed_write_leave_a_part_of_the_line(rt: HostRuntime) -> Result<(), Fail> {
     let alloc = rt.alloc();
     let words = [String::from_str(alloc, "query")?];
     let mut store = MemStore::new(alloc, numbers(alloc, &[1])?);

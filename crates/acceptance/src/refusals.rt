@@ -33,7 +33,11 @@ fn a_text_of_another_form_is_refused(rt: HostRuntime) -> Result<(), Fail> {
         let mut store = example(alloc)?;
         let (status, written) = query(alloc, &mut store, text.as_bytes())?;
         assert_eq!(rt; status, 1, "{text}");
-        assert_eq!(rt; written.as_slice(), b"query: not built\n".as_slice(), "{text}");
+        assert_eq!(rt;
+            written.as_slice(),
+            b"query: not built\n".as_slice(),
+            "{text}"
+        );
     }
     Ok(())
 }
@@ -148,7 +152,11 @@ fn a_missing_file_is_refused(rt: HostRuntime) -> Result<(), Fail> {
         let mut store = example(alloc)?;
         let (status, written) = query(alloc, &mut store, text.as_bytes())?;
         assert_eq!(rt; status, 4, "{text}");
-        assert_eq!(rt; written.as_slice(), b"database: not built\n".as_slice(), "{text}");
+        assert_eq!(rt;
+            written.as_slice(),
+            b"database: not built\n".as_slice(),
+            "{text}"
+        );
     }
     Ok(())
 }

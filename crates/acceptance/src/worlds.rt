@@ -7,9 +7,7 @@ use stream_core::{Bytes, List, MemSink, MemSource, MemStore};
 
 /// The now file of slot `a` and so many rows, fewer than 256.
 pub fn now_file(rows: u8) -> [u8; 13] {
-    [
-        b'M', b'N', b'O', b'W', b'a', rows, 0, 0, 0, 0, 0, 0, 0,
-    ]
+    [b'M', b'N', b'O', b'W', b'a', rows, 0, 0, 0, 0, 0, 0, 0]
 }
 
 /// The files of table `t` with five rows: `a` is 10, 20, 30, 40, 50 and `b` is 2, 3, 5, 7, 8.

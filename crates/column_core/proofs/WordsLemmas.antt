@@ -3,7 +3,7 @@ use Rattle.std.proofs.Common.{◌≡◌, ℕ, zero, suc, ◌+◌, ◌*◌, ◌^�
 use Rattle.std.specs.List.{AllByRecursion}
 use Rattle.std.specs.Simd.{first_chunks}
 use Rattle.std.proofs.lemmas.Nat.{le_bytes_8, from_le_bytes-to_le_bytes_8}
-use Rattle.std.proofs.lemmas.List.{length-append, length-take, length-drop, get_or-take, get_or-drop, get_or_past, take-append-drop, nil_from_length}
+use Rattle.std.proofs.lemmas.List.{length-append, length-take, length-drop, get_or-take, get_or-drop, get_or_past, take-append-drop, take_at, drop_at, nil_from_length}
 use Rattle.definitions.specs.Columns.{IsWord, word_bytes, words_of}
 use Rattle.column_core.specs.Words.{number_of}
 
@@ -55,3 +55,16 @@ words_of-numbers (suc count) body whole are =
     words_of-numbers count (drop 8 body) (omega (arith, length-drop 8 body)) (AreBytes-drop 8 body are) in
     ap (λ (front : List ℕ). front ++ words_of (map number_of (first_chunks 8 count (drop 8 body)))) first
     ∙ ap (λ (back : List ℕ). take 8 body ++ back) rest ∙ take-append-drop 8 body
+
+-- The numbers of the words of a column are the column.
+pub numbers-words_of : (values : List ℕ) → AllByRecursion IsWord values → map number_of (first_chunks 8 (length values) (words_of values)) ≡ values
+numbers-words_of [] words = refl
+numbers-words_of (value ∷ values) words =
+    let word = word_bytes value in
+    let rest = words_of values in
+    let first : number_of (take 8 (word ++ rest)) ≡ value =
+    ap number_of (take_at word rest 8 (length-word_bytes value)) ∙ number_of-word_bytes value words.0 in
+    let later : map number_of (first_chunks 8 (length values) (drop 8 (word ++ rest))) ≡ values =
+    ap (λ (body : List ℕ). map number_of (first_chunks 8 (length values) body)) (drop_at word rest 8 (length-word_bytes value))
+    ∙ numbers-words_of values words.1 in
+    ap (λ (n : ℕ). n ∷ map number_of (first_chunks 8 (length values) (drop 8 (word ++ rest)))) first ∙ ap (λ (ns : List ℕ). value ∷ ns) later

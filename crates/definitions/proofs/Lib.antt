@@ -3,3 +3,4 @@ pub mod WordLaws
 pub mod PlainLaws
 pub mod PackedLaws
 pub mod SumLaws
+pub mod WorkedExamples

@@ -1,9 +1,9 @@
 -- Bytes are the plain file of one column at most.
-use Rattle.std.proofs.Common.{◌≡◌, ℕ, ◌+◌, ◌^◌, ◌<◌, List, [], ◌∷◌, ◌++◌, length, take, drop, refl, sym, ap, ◌∙◌, arith, length-append}
+use Rattle.std.proofs.Common.{◌≡◌, ℕ, List, [], ◌∷◌, ◌++◌, length, take, drop, refl, sym, ap, ◌∙◌, arith, length-append}
 use Rattle.std.proofs.Math.Seq.{take-append_seam, drop-append_seam}
 use Rattle.std.specs.Int.{from_le_bytes, w64}
 use Rattle.std.specs.List.{AllByRecursion}
-use Rattle.definitions.specs.Columns.{IsWord, word_bytes, words_of, IsPlainFile, plain_file, column_head}
+use Rattle.definitions.specs.Columns.{IsWord, word_bytes, words_of, IsPlainFile, column_head}
 use Rattle.definitions.proofs.WordLaws.{length-word_bytes, from_le_bytes-word_bytes}
 
 -- fronts of one length are one, and so are the rests

@@ -1,6 +1,6 @@
 -- A selection and a projection keep the values of the rows that pass the test.
-use Rattle.std.proofs.Common.{◌≡◌, ℕ, ◌+◌, ◌^◌, ◌<◌, Bool, true, false, cond, List, [], ◌∷◌, ◌++◌, length, map, get_or, refl, sym, ap, ◌∙◌, subst, arith, length-append, append_assoc, add-zero}
-use Rattle.std.specs.Prelude.{Option, Some, None, sum, zip, filter, slice_index, if◌then◌else◌}
+use Rattle.std.proofs.Common.{◌≡◌, ℕ, ◌+◌, ◌^◌, ◌<◌, Bool, true, false, cond, List, [], ◌∷◌, ◌++◌, length, map, get_or, refl, ap, subst, arith, length-append, append_assoc, add-zero}
+use Rattle.std.specs.Prelude.{Option, Some, None, sum, slice_index, if◌then◌else◌}
 use Rattle.std.proofs.lemmas.List.{get_or-append-add}
 use Rattle.definitions.specs.Operators.{is_within, positions_from, positions_in, values_at}
 use Rattle.definitions.specs.Sums.{kept_values, IsSum}

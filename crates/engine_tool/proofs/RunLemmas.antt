@@ -1,11 +1,11 @@
 -- The top call's promises, from what a command's reply says and what was written of it.
-use Rattle.std.proofs.Common.{◌≡◌, ◌≢◌, ℕ, ◌<◌, List, length, take, Option, Some, None, Result, Ok, Err, refl, sym, ap, ◌∙◌, subst, inl, inr, ◌⊎◌, arith, rules}
+use Rattle.std.proofs.Common.{◌≡◌, ◌≢◌, ℕ, List, Option, Some, None, Result, Ok, Err, refl, sym, ap, ◌∙◌, subst, inl, inr, ◌⊎◌, arith}
 use Rattle.std.specs.Prelude.{OnOk, IsErrOf, codes}
 use Rattle.std.specs.Io.KnownBytes.{Keeps, Appends, IsAtEnd}
 use Rattle.definitions.specs.Databases.{Files}
 use Rattle.definitions.specs.Faults.{Rose}
 use Rattle.definitions.specs.Replies.{IsQueryCommand, CommandReply, Reply, reply_of, Replies}
-use Rattle.definitions.specs.Headline.{Outside, FilesAre, KeepsFiles, IsReplied, ReadsInput, ChangesNoFile, SomeRose, HasFault, IsCutOff, SaysLine, SaysFault, store, input, reply, memory, SaysMemory, IsComplete}
+use Rattle.definitions.specs.Headline.{Outside, FilesAre, KeepsFiles, IsReplied, ReadsInput, ChangesNoFile, HasFault, IsCutOff, SaysFault, store, input, reply, memory, SaysMemory, IsComplete}
 use Rattle.engine_tool.specs.declared.stops.Refusal.TheVariants as refusal
 use Rattle.engine_tool.specs.declared.stops.Stop.{Stop}
 use Rattle.engine_tool.specs.declared.stops.Stop.TheVariants as stop
@@ -111,8 +111,9 @@ written_fault : (words : List (List ℕ)) (before after : Outside) (end : Result
     → Appends before.output after.output (text_of end) → SaysFault words before after
 written_fault words before after end answered fault wrote =
     elim (faulty_end words before after end answered fault) [
-        inl h ↦ store h.0 (inl (subst (Appends before.output after.output) h.1 wrote))
-      | inr h ↦ input h.0 (inl (subst (Appends before.output after.output) h.1 wrote)) ]
+      | inl h ↦ store h.0 (inl (subst (Appends before.output after.output) h.1 wrote))
+      | inr h ↦ input h.0 (inl (subst (Appends before.output after.output) h.1 wrote))
+    ]
 
 -- a fault, want of memory, or neither
 data Kind (status : ℕ) : Type 0 where
@@ -135,30 +136,38 @@ module _ (words : List (List ℕ)) (before after : Outside) (end : Result (List 
   whole_reply : (files : Files) (text : List ℕ) → before.files ≡ Some files → before.input ≡ Some text → status ≢ 3 → status ≢ 6 → Whole before after end status →
       (answer : Reply) × Replies words files text answer × (status ≡ answer.status) × Appends before.output after.output answer.text × FilesAre after.files answer.files
   whole_reply files text told_files told_text not_fault not_memory wrote =
-      let r = replied words files text end (answered.step files text told_files told_text) (λ e. not_fault (wrote.0 ∙ e)) (λ e. not_memory (wrote.0 ∙ e)) in
-      (r.0, r.1, wrote.0 ∙ r.2, subst (Appends before.output after.output) r.3 wrote.1,
-      subst (FilesAre after.files) (sym r.4) (FilesAre-kept before.files after.files files answered.kept told_files))
+      let r = replied words files text end (answered.step files text told_files told_text) (λ e. not_fault (wrote.0 ∙ e)) (λ e. not_memory (wrote.0 ∙ e)) in (
+        r.0,
+        r.1,
+        wrote.0 ∙ r.2,
+        subst (Appends before.output after.output) r.3 wrote.1,
+        subst (FilesAre after.files) (sym r.4) (FilesAre-kept before.files after.files files answered.kept told_files),
+      )
 
   whole_usage : Whole before after end status → (IsQueryCommand words → ⊥) → (status ≡ 2) ⊎ (status ≡ 3) ⊎ (status ≡ 6)
   whole_usage wrote no_command = inl (wrote.0 ∙ ap status_of (answered.usage no_command))
 
   pub run_reply : Wrote before after end status → IsReplied words before after status
   run_reply (inl wrote) = record {
-      reply = λ files text told_files told_text not_fault not_memory. whole_reply files text told_files told_text not_fault not_memory wrote;
-      usage = whole_usage wrote;
-      command = λ e. answered.command (usage_end end (sym wrote.0 ∙ e)) }
+    reply = λ files text told_files told_text not_fault not_memory. whole_reply files text told_files told_text not_fault not_memory wrote;
+    usage = whole_usage wrote;
+    command = λ e. answered.command (usage_end end (sym wrote.0 ∙ e));
+  }
   run_reply (inr wrote) = record {
-      reply = λ files text told_files told_text not_fault not_memory. absurd (not_fault wrote.0);
-      usage = λ no_command. inr (inl wrote.0);
-      command = λ e. absurd (omega (arith, wrote.0)) }
+    reply = λ files text told_files told_text not_fault not_memory. absurd (not_fault wrote.0);
+    usage = λ no_command. inr (inl wrote.0);
+    command = λ e. absurd (omega (arith, wrote.0));
+  }
 
   pub run_input : Wrote before after end status → ReadsInput words before after status
   run_input (inl wrote) = record {
-      whole = λ done. done_end end (IsAtEnd after.input) (sym wrote.0 ∙ done) answered.whole;
-      unread = λ no_command. Keeps-kept before.input after.input (answered.unread no_command) }
+    whole = λ done. done_end end (IsAtEnd after.input) (sym wrote.0 ∙ done) answered.whole;
+    unread = λ no_command. Keeps-kept before.input after.input (answered.unread no_command);
+  }
   run_input (inr wrote) = record {
-      whole = λ done. absurd (omega (arith, wrote.0));
-      unread = λ no_command. Keeps-kept before.input after.input (answered.unread no_command) }
+    whole = λ done. absurd (omega (arith, wrote.0));
+    unread = λ no_command. Keeps-kept before.input after.input (answered.unread no_command);
+  }
 
   pub run_files : ChangesNoFile before after
   run_files = KeepsFiles-kept before.files after.files answered.kept
@@ -179,7 +188,8 @@ module _ (words : List (List ℕ)) (before after : Outside) (end : Result (List 
   run_complete (inr wrote) = λ none files text told_files told_text. absurd (none (inr (inr wrote.1)))
   run_complete (inl wrote) = λ none files text told_files told_text.
       elim (kind_of end) [
-          fault e ↦ absurd (none (run_fault (inl wrote) (wrote.0 ∙ e)))
+        | fault e ↦ absurd (none (run_fault (inl wrote) (wrote.0 ∙ e)))
         | want e ↦ inl (wrote.0 ∙ e)
         | other not_fault not_memory ↦
-          let r = whole_reply files text told_files told_text (λ e. not_fault (sym wrote.0 ∙ e)) (λ e. not_memory (sym wrote.0 ∙ e)) wrote in inr (r.0, r.1, r.2) ]
+            let r = whole_reply files text told_files told_text (λ e. not_fault (sym wrote.0 ∙ e)) (λ e. not_memory (sym wrote.0 ∙ e)) wrote in inr (r.0, r.1, r.2)
+      ]

@@ -1,6 +1,5 @@
 -- Lemmas on tokens.
-use Rattle.std.proofs.Common.{◌≡◌, ◌≢◌, ℕ, ◌+◌, ◌*◌, ◌-◌, ◌^◌, ◌<◌, ◌≤◌, Bool, true, false, cond, ◌&&◌, ◌||◌, zero, suc, ◌⊎◌, inl, inr, ltb, List, [], ◌∷◌, ◌++◌, Option, Some, None, length, take, drop, map, get_or, refl, sym, ap, ◌∙◌, subst, arith, rules, tests}
-use Rattle.std.proofs.lemmas.Bool.{false≢true}
+use Rattle.std.proofs.Common.{◌≡◌, ℕ, ◌+◌, ◌*◌, ◌-◌, ◌^◌, ◌<◌, ◌≤◌, Bool, true, false, cond, ◌&&◌, ◌||◌, zero, suc, ◌⊎◌, inl, inr, List, [], ◌∷◌, ◌++◌, Option, Some, None, length, take, get_or, refl, sym, ap, ◌∙◌, subst, arith}
 use Rattle.std.proofs.lemmas.Bool.Decides.{nat_tests}
 use Rattle.std.proofs.lemmas.List.{length-take, get_or-take}
 use Rattle.std.proofs.lemmas.List.Sums.{prefix_len_passes}
@@ -8,10 +7,10 @@ use Rattle.std.specs.List.{prefix_len}
 use Rattle.std.specs.Option.{option_map}
 use Rattle.std.specs.Str.{str_to_ascii_lowercase}
 use Rattle.std.specs.Char.{is_ascii_digit}
-use Rattle.std.specs.Prelude.{if◌then◌else◌, ◌==◌, nat_lt}
+use Rattle.std.specs.Prelude.{◌==◌, nat_lt}
 use Rattle.std.specs.Prelude.{not, nat_le}
 use Rattle.std.specs.List.{list_all}
-use Rattle.definitions.specs.Names.{max_name, begins_with_letter, is_name_byte, is_keyword, is_name, IsName}
+use Rattle.definitions.specs.Names.{max_name, begins_with_letter, is_name_byte, is_keyword, IsName}
 use Rattle.definitions.specs.Tokens.{Token, word, number, string, symbol, is_white_space, begins_word, continues_word, front, behind, is_symbol, symbol_of_one, symbol_at, number_of, quoted, token_at, first_token, value_of, value_from, Begins}
 use Rattle.engine_tool.specs.Texts.{LacksToken, HasToken}
 
@@ -88,8 +87,9 @@ word_lacks lower a next begins = other_lacks (word lower) a next begins (λ valu
 pub symbol_lacks_other : (expected a : ℕ) (next : List ℕ) → (a ≡ expected → ⊥) → Lacks (symbol (expected ∷ [])) (token_at (a ∷ next))
 symbol_lacks_other expected a next differs =
     elim (begins_word a) as (λ b. begins_word a ≡ b → Lacks (symbol (expected ∷ [])) (token_at (a ∷ next))) [
-        true ↦ λ is rest e. (let wrong = ap (token_or (word [])) (sym (token_at-word next a is) ∙ e) in cc)
-      | false ↦ λ is. other_lacks (symbol (expected ∷ [])) a next is (λ value e. cc) (λ bytes e. cc) (λ e. differs cc) (λ b e. cc) ] refl
+      | true ↦ λ is rest e. (let wrong = ap (token_or (word [])) (sym (token_at-word next a is) ∙ e) in cc)
+      | false ↦ λ is. other_lacks (symbol (expected ∷ [])) a next is (λ value e. cc) (λ bytes e. cc) (λ e. differs cc) (λ b e. cc)
+    ] refl
 
 -- a parenthesis is a token
 token_at-open : (next : List ℕ) → token_at (40 ∷ next) ≡ Some (symbol (40 ∷ []), next)
@@ -164,32 +164,37 @@ pub token_at-number : (text : List ℕ) → 0 < length (front is_ascii_digit tex
 token_at-number [] some = absurd (omega arith)
 token_at-number (a ∷ text) some =
     elim (is_ascii_digit a) as (λ b. is_ascii_digit a ≡ b → token_at (a ∷ text) ≡ number_of (front is_ascii_digit (a ∷ text)) (behind is_ascii_digit (a ∷ text))) [
-        true ↦ λ digit. rw (digit_begins_no_word a digit, digit) refl
-      | false ↦ λ other. absurd (let none = rw other at some in omega arith) ] refl
+      | true ↦ λ digit. rw (digit_begins_no_word a digit, digit) refl
+      | false ↦ λ other. absurd (let none = rw other at some in omega arith)
+    ] refl
 
 -- a text that doesn't begin with a digit begins with no number
 pub number_lacks_digits : (value : ℕ) (text : List ℕ) → length (front is_ascii_digit text) ≡ 0 → Lacks (number value) (token_at text)
 number_lacks_digits value [] none = lacks_at_end (number value)
 number_lacks_digits value (a ∷ text) none =
     elim (begins_word a) as (λ b. begins_word a ≡ b → Lacks (number value) (token_at (a ∷ text))) [
-        true ↦ λ is rest e. (let wrong = ap (token_or (word [])) (sym (token_at-word text a is) ∙ e) in cc)
+      | true ↦ λ is rest e. (let wrong = ap (token_or (word [])) (sym (token_at-word text a is) ∙ e) in cc)
       | false ↦ λ is. elim (is_ascii_digit a) as (λ b. is_ascii_digit a ≡ b → Lacks (number value) (token_at (a ∷ text))) [
-            true ↦ λ digit. absurd (let some : length (take (1 + prefix_len is_ascii_digit text) (a ∷ text)) ≡ 0 = rw digit at none in omega (arith, length-take (1 + prefix_len is_ascii_digit text) (a ∷ text)))
-          | false ↦ λ other. rw (is, other)
-            (Lacks-cond (number value) (a == 39) _ _ (string_lacks (number value) (λ bytes e. cc) (quoted text)) (symbol_lacks (number value) a (λ e. cc) (λ b e. cc) text)) ] refl ] refl
+        | true ↦ λ digit. absurd (let some : length (take (1 + prefix_len is_ascii_digit text) (a ∷ text)) ≡ 0 = rw digit at none in omega (arith, length-take (1 + prefix_len is_ascii_digit text) (a ∷ text)))
+        | false ↦ λ other. rw (is, other)
+            (Lacks-cond (number value) (a == 39) _ _ (string_lacks (number value) (λ bytes e. cc) (quoted text)) (symbol_lacks (number value) a (λ e. cc) (λ b e. cc) text))
+      ] refl
+    ] refl
 
 -- digits are a number exactly where their value is small enough
 number_of-small : (digits rest : List ℕ) → value_of digits < 2 ^ 64 → number_of digits rest ≡ Some (number (value_of digits), rest)
 number_of-small digits rest small =
     elim (nat_lt (value_of digits) (2 ^ 64)) as (λ b. nat_lt (value_of digits) (2 ^ 64) ≡ b → number_of digits rest ≡ Some (number (value_of digits), rest)) [
-        true ↦ λ is. rw is refl
-      | false ↦ λ is. absurd (grind (arith, nat_tests)) ] refl
+      | true ↦ λ is. rw is refl
+      | false ↦ λ is. absurd (grind (arith, nat_tests))
+    ] refl
 
 number_of-large : (digits rest : List ℕ) → (value_of digits < 2 ^ 64 → ⊥) → number_of digits rest ≡ None
 number_of-large digits rest large =
     elim (nat_lt (value_of digits) (2 ^ 64)) as (λ b. nat_lt (value_of digits) (2 ^ 64) ≡ b → number_of digits rest ≡ None) [
-        true ↦ λ is. absurd (large (grind (arith, nat_tests)))
-      | false ↦ λ is. rw is refl ] refl
+      | true ↦ λ is. absurd (large (grind (arith, nat_tests)))
+      | false ↦ λ is. rw is refl
+    ] refl
 
 pub number_found : (text : List ℕ) → 0 < length (front is_ascii_digit text) → value_of (front is_ascii_digit text) < 2 ^ 64
     → token_at text ≡ Some (number (value_of (front is_ascii_digit text)), behind is_ascii_digit text)

@@ -1,14 +1,11 @@
 -- A command's reply in the code, and what was written of it.
-use Rattle.std.specs.Prelude.{◌≡◌, ℕ, ◌<◌, ◌⊎◌, List, length, take, Option, Some, Result, IsErrOf, OnOk}
-use Rattle.std.specs.Io.KnownBytes.{Appends, IsAtEnd}
+use Rattle.std.specs.Prelude.{◌≡◌, ℕ, ◌<◌, ◌⊎◌, List, length, take, Option, Result}
+use Rattle.std.specs.Io.KnownBytes.{Appends}
 use Rattle.definitions.specs.Databases.{Files}
 use Rattle.definitions.specs.Faults.{Rose}
-use Rattle.definitions.specs.Replies.{IsQueryCommand, CommandReply}
 use Rattle.definitions.specs.Headline.{Outside}
-use Rattle.engine_tool.specs.declared.stops.Refusal.TheVariants as refusal
 use Rattle.engine_tool.specs.declared.stops.Stop.{Stop}
-use Rattle.engine_tool.specs.declared.stops.Stop.TheVariants as stop
-use Rattle.engine_tool.specs.Stops.{EndsAs, status_of, text_of}
+use Rattle.engine_tool.specs.Stops.{status_of, text_of}
 
 -- what contracts see of a store, an input and an output
 abbrev pub outside : Option Files → ℕ → Option (List ℕ) → ℕ → Option (List ℕ) → ℕ → Outside

@@ -1,5 +1,5 @@
 -- How a step of a command ends in the code, and what that means among the outcomes of its definition.
-use Rattle.std.specs.Prelude.{◌≡◌, ℕ, List, codes, Result, Ok, Err}
+use Rattle.std.specs.Prelude.{ℕ, List, codes, Result, Ok, Err}
 use Rattle.definitions.specs.Outcomes as outcomes
 use Rattle.definitions.specs.Outcomes.{Outcomes}
 use Rattle.definitions.specs.Replies.{bad_usage, bad_query, bad_database, sum_too_wide}

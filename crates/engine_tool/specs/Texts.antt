@@ -1,7 +1,7 @@
 -- What the reader of a query's text gives.
-use Rattle.std.specs.Prelude.{◌≡◌, ℕ, Bool, List, Option, Some}
+use Rattle.std.specs.Prelude.{◌≡◌, ℕ, Bool, List, Some}
 use Rattle.std.specs.Char.{is_ascii_digit}
-use Rattle.definitions.specs.Tokens.{Token, word, is_white_space, continues_word, first_token, Begins}
+use Rattle.definitions.specs.Tokens.{Token, is_white_space, continues_word, first_token}
 use Rattle.definitions.specs.Queries.{Query}
 use Rattle.engine_tool.specs.declared.text.Class.{Class}
 use Rattle.engine_tool.specs.declared.text.Class.TheVariants as class

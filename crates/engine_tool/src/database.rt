@@ -49,12 +49,7 @@ fn column_file_name(table: &Name, slot: Slot, column: &Name) -> ArrayString<72>
 }
 
 /// A file that has to be there, and not too long.
-fn load_file<S: Store>(
-    alloc: Global,
-    store: &mut S,
-    name: &str,
-    limit: u64,
-) -> Result<Bytes, Stop>
+fn load_file<S: Store>(alloc: Global, store: &mut S, name: &str, limit: u64) -> Result<Bytes, Stop>
     ensures step { (files : Files) → S.files store.old ≡ Some files → EndsAs result (OneOr (Holds files name.now limit) bad_database) }
     ensures kept { S.files store.new ≡ S.files store.old }
     ensures cause { IsErrOf result Stop.StoreFault → Rose (S.faults store.old) (S.faults store.new) }

@@ -155,7 +155,9 @@ fn value_of(digits: &[u8]) -> Option<u64>
 {
     let mut value = 0u64;
     for digit in digits {
-        value = value.checked_mul(10)?.checked_add(u64::from(*digit - b'0'))?;
+        value = value
+            .checked_mul(10)?
+            .checked_add(u64::from(*digit - b'0'))?;
     }
     Some(value)
 }

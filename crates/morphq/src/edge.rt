@@ -6,11 +6,10 @@
 ghost use Rattle.std.specs.Prelude.{None};
 
 use std::alloc::Global;
-use std::fs;
 use std::fs::OpenFile;
-use std::io;
 use std::io::{Read, Write};
 use std::rt::Files;
+use std::{fs, io};
 use stream_core::{Bytes, Failed, List, LoadError, SaveError, Sink, Source, Store};
 
 /// A reader as a source.

@@ -1,5 +1,5 @@
 -- What reads and writes of a whole text do to told contents.
-use Rattle.std.specs.Prelude.{◌≡◌, ℕ, ◌+◌, ◌<◌, List, length, take, Option}
+use Rattle.std.specs.Prelude.{◌≡◌, ℕ, ◌<◌, List, length, take, Option}
 use Rattle.std.specs.Io.KnownBytes.{Consumes, Appends}
 
 -- some bytes were read, of which there are so many

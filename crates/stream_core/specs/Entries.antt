@@ -1,5 +1,5 @@
 -- The files of a store in memory.
-use Rattle.std.specs.Prelude.{◌≡◌, ℕ, List, Option, option_map, vec_items}
+use Rattle.std.specs.Prelude.{◌≡◌, ℕ, List, option_map, vec_items}
 use Rattle.std.specs.BTreeMap.{get_by_text}
 use Rattle.definitions.specs.Databases.{Files}
 use Rattle.stream_core.specs.declared.memory.MemStore.{MemStore}

@@ -233,7 +233,11 @@ impl MemStore {
         let faults = self.faults;
         let fails = is_failing(self.failing.as_slice(), call);
         self.calls = call.saturating_add(1);
-        self.faults = if fails { faults.saturating_add(1) } else { faults };
+        self.faults = if fails {
+            faults.saturating_add(1)
+        } else {
+            faults
+        };
         fails
     }
 }

@@ -12,7 +12,7 @@ returns-then-bytes-lt-HEAD_LEN-clause-none c _ values is = let parts : PlainPart
 pub returns-else-body-eq0-clause-none : goal.returns-else-body-eq0-clause-none
 returns-else-body-eq0-clause-none c _ values is =
     let parts : PlainParts c.args.bytes.now values = plain_parts c.args.bytes.now values is in
-    let long : length c.split_at.result.1.now ≡ length values * 8 = ap length c.split_at.ensures.back ∙ parts.body in
+    let long : length c.split_at.result.1.now ≡ length values * 8 = ap length c.split_at.ensures.back ∙ parts.whole in
     elim c.else-body-eq0.branch [
       | else-body-eq0-via-then-body-eq0+then-count-le-MAX_ROWS+else-eq w ↦
           let rows : length c.split_at.result.1.now / 8 ≡ length values = omega arith in

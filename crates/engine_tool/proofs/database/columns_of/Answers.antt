@@ -1,10 +1,9 @@
-use Rattle.std.proofs.Common.{◌≡◌, ℕ, List, Some, Ok, Err, ◌∙◌, refl, inl}
+use Rattle.std.proofs.Common.{ℕ, List, Err, ◌∙◌, refl, inl}
 use Rattle.std.proofs.lemmas.Result.{err_from_is_err_and}
 use Rattle.definitions.specs.Databases.{Files, Now, StandsAt, Stores}
 use Rattle.definitions.specs.Queries.{Query}
 use Rattle.definitions.specs.Outcomes.{Outcomes, OneOr, Then, Gives}
 use Rattle.definitions.specs.Replies.{bad_database}
-use Rattle.engine_tool.specs.Stops.{EndsAs}
 use Rattle.engine_tool.specs.Tables.{now_view}
 use Rattle.engine_tool.specs.Texts.{query_view}
 use Rattle.engine_tool.proofs.StepLemmas.{Ends-stopped, Ends-went}
@@ -48,5 +47,12 @@ returns-clause-step g c = λ files told.
     let summed = c.in_ok-summed.summed in
     let tested = c.in_ok-tested.tested in
     let kept = c.in_ok-now.ensures.kept ∙ told in
-    inl (now, c.in_ok-now.ensures.step files told, inl (summed, c.in_ok-summed.ensures.step files kept,
-    inl (tested, c.in_ok-tested.ensures.step files (c.in_ok-summed.ensures.kept ∙ kept), refl)))
+    inl (
+      now,
+      c.in_ok-now.ensures.step files told,
+      inl (
+        summed,
+        c.in_ok-summed.ensures.step files kept,
+        inl (tested, c.in_ok-tested.ensures.step files (c.in_ok-summed.ensures.kept ∙ kept), refl),
+      ),
+    )

@@ -1,10 +1,8 @@
-use Rattle.std.proofs.Common.{◌≡◌, ℕ, List, Some, Ok, Err, Option, ap, sym, ◌∙◌, refl, inl, subst}
+use Rattle.std.proofs.Common.{Ok, Err, ap, inl}
 use Rattle.std.proofs.lemmas.Result.{err_from_is_err_and}
-use Rattle.definitions.specs.Databases.{Files}
 use Rattle.definitions.specs.Outcomes.{OneOr, Gives}
 use Rattle.definitions.specs.Sums.{kept_values, IsSum, answer_text}
 use Rattle.definitions.specs.Replies.{sum_too_wide, ColumnsOf, AnswerOf}
-use Rattle.engine_tool.specs.Stops.{EndsAs}
 use Rattle.engine_tool.specs.Texts.{query_view}
 use Rattle.engine_tool.proofs.StepLemmas.{Ends-stopped, Ends-went}
 use Rattle.engine_tool.proofs.replies.answer.Goals as goal

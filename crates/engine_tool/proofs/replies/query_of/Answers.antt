@@ -1,4 +1,4 @@
-use Rattle.std.proofs.Common.{◌≡◌, ℕ, List, Some, ap, sym, ◌∙◌, refl, inl, subst}
+use Rattle.std.proofs.Common.{◌∙◌, refl, inl, subst}
 use Rattle.definitions.specs.Queries.{Query, Spells}
 use Rattle.engine_tool.proofs.replies.query_of.Goals as goal
 

@@ -1,4 +1,4 @@
-use Rattle.std.proofs.Common.{◌≡◌, [], ◌∷◌, ap, sym, ◌∙◌, subst}
+use Rattle.std.proofs.Common.{◌≡◌, [], ◌∷◌, ap, sym, ◌∙◌}
 use Rattle.std.proofs.lemmas.List.{nil_from_length}
 use Rattle.definitions.specs.Tokens.{symbol}
 use Rattle.engine_tool.proofs.TextLemmas.{symbol_lacks_other, token_at-parenthesis, lacks_token, has_token, lacks_at_end}

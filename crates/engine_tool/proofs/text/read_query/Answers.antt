@@ -1,8 +1,8 @@
-use Rattle.std.proofs.Common.{◌≡◌, ℕ, List, [], ◌++◌, length, refl, ap, sym, ◌∙◌, subst, arith}
+use Rattle.std.proofs.Common.{◌≡◌, ℕ, List, [], ◌++◌, length, refl, sym, ◌∙◌, subst, arith}
 use Rattle.std.proofs.lemmas.List.{nil_from_length}
 use Rattle.std.proofs.lemmas.Bool.Decides.{nat_tests}
 use Rattle.definitions.specs.Tokens.{Begins, behind, is_white_space}
-use Rattle.definitions.specs.Queries.{Query, Spells, item_tokens, table_tokens, condition_tokens, query_tokens}
+use Rattle.definitions.specs.Queries.{Query, item_tokens, table_tokens, condition_tokens, query_tokens}
 use Rattle.engine_tool.specs.Texts.{query_view}
 use Rattle.engine_tool.proofs.TextLemmas.{Begins-split, Begins-join, Begins-rest}
 use Rattle.engine_tool.proofs.text.read_query.Goals as goal

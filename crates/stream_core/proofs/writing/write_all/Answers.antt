@@ -1,4 +1,4 @@
-use Rattle.std.proofs.Common.{◌≡◌, ℕ, ◌+◌, ◌-◌, ◌≤◌, List, ◌++◌, length, take, drop, subst, sym, ap, ◌∙◌, arith, rules, length-drop, length-take}
+use Rattle.std.proofs.Common.{◌≡◌, ℕ, ◌+◌, ◌≤◌, List, ◌++◌, length, take, drop, subst, sym, ap, ◌∙◌, arith, length-drop}
 use Rattle.std.proofs.lemmas.List.{take-append-drop, drop-take, take-take, take_rest}
 use Rattle.std.specs.Io.KnownBytes.{Appends}
 use Rattle.stream_core.proofs.Known.{Appends-append}
@@ -20,8 +20,9 @@ loop-start-preserved g c =
     let written : Appends (g.O.Sink.taken c.loop-start.out) (g.O.Sink.taken c.write.new.self) (take count (drop start bytes)) =
     subst (λ l. Appends (g.O.Sink.taken c.loop-start.out) (g.O.Sink.taken c.write.new.self) (take count l)) (take_rest bytes start) c.in_ok-start.ensures.bytes in
     record {
-        within = omega (arith, length-drop start bytes);
-        written = subst (Appends (g.O.Sink.taken c.args.out.now) (g.O.Sink.taken c.write.new.self)) (sym (take-add bytes start count))
-        (Appends-append _ _ _ _ _ c.loop-start.invariant.written written);
-        told = c.in_ok-start.ensures.told ∙ c.loop-start.invariant.told;
-        later = omega (arith, c.loop-start.invariant.later, c.in_ok-start.ensures.later) }
+      within = omega (arith, length-drop start bytes);
+      written = subst (Appends (g.O.Sink.taken c.args.out.now) (g.O.Sink.taken c.write.new.self)) (sym (take-add bytes start count))
+          (Appends-append _ _ _ _ _ c.loop-start.invariant.written written);
+      told = c.in_ok-start.ensures.told ∙ c.loop-start.invariant.told;
+      later = omega (arith, c.loop-start.invariant.later, c.in_ok-start.ensures.later);
+    }

@@ -1,5 +1,5 @@
-use Rattle.std.proofs.Common.{◌≡◌, ℕ, ◌+◌, ◌-◌, ◌<◌, ◌≤◌, List, [], ◌++◌, length, take, drop, sym, ap, ◌∙◌, arith, length-append, length-drop, length-take}
-use Rattle.std.proofs.lemmas.List.{take-append-drop, take-append-le, length-take-le, drop-drop, take_rest, drop_all}
+use Rattle.std.proofs.Common.{◌≡◌, ℕ, ◌+◌, ◌-◌, ◌≤◌, List, ◌++◌, length, take, drop, sym, ap, ◌∙◌, arith, length-append, length-drop, length-take}
+use Rattle.std.proofs.lemmas.List.{take-append-drop, length-take-le, drop-drop, take_rest, drop_all}
 use Rattle.std.proofs.Math.Seq.{take-append_seam}
 use Rattle.stream_core.proofs.memory.MemSourceSource.read.Goals as goal
 
@@ -20,6 +20,7 @@ returns-clause-bytes c =
     let left : c.args.self.now.left ≡ drop start bytes = sym (ap (λ s. s.left) c.self.view_is) in
     let slice = c.as_slice-2.result.now in
     let rest : take (length slice - start) (drop start slice) ≡ drop start bytes = take_rest slice start ∙ ap (drop start) c.as_slice-2.ensures in
-    let enough : count ≤ length (drop start bytes) = omega (arith, ap length rest) in
-    (left ∙ front_and_rest bytes _ _ start count (c.copy_from_slice.ensures.after ∙ ap (take count) rest) enough,
-    λ none room. drop_all (start + count) bytes (omega (arith, ap length rest, length-drop start bytes, c.self.invariant.1, room, c.copy_from_slice.ensures.len, length-append c.copy_from_slice.new.self (drop count c.args.into.now), length-drop count c.args.into.now, length-take count c.args.into.now)))
+    let enough : count ≤ length (drop start bytes) = omega (arith, ap length rest) in (
+      left ∙ front_and_rest bytes _ _ start count (c.copy_from_slice.ensures.after ∙ ap (take count) rest) enough,
+      λ none room. drop_all (start + count) bytes (omega (arith, ap length rest, length-drop start bytes, c.self.invariant.1, room, c.copy_from_slice.ensures.len, length-append c.copy_from_slice.new.self (drop count c.args.into.now), length-drop count c.args.into.now, length-take count c.args.into.now)),
+    )

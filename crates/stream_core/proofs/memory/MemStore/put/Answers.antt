@@ -1,6 +1,5 @@
-use Rattle.std.proofs.Common.{◌≡◌, ℕ, List, Some, arith, ap, ◌∙◌, cond, sym}
-use Rattle.std.proofs.lemmas.Map.Text.{btree_map_updates_text, text_keys}
-use Rattle.stream_core.specs.Entries.{files_of}
+use Rattle.std.proofs.Common.{arith}
+use Rattle.std.proofs.lemmas.Map.Text.{text_keys}
 use Rattle.stream_core.proofs.memory.MemStore.put.Goals as goal
 
 pub returns-clause-ok : goal.returns-clause-ok
