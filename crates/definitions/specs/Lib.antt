@@ -12,3 +12,4 @@ pub mod Headline
 pub mod Blocks
 pub mod Packed
 pub mod Steps
+pub mod Spellings
