@@ -1,5 +1,5 @@
 -- Bits of numbers, numbers made of equal parts, and lists made of a function.
-use Rattle.std.proofs.Common.{◌≡◌, ℕ, zero, suc, ◌+◌, ◌-◌, ◌*◌, ◌/◌, ◌%◌, ◌^◌, ◌<◌, List, [], ◌∷◌, ◌++◌, length, get_or, refl, sym, ap, ◌∙◌, subst, inl, inr, arith}
+use Rattle.std.proofs.Common.{◌≡◌, ℕ, zero, suc, ◌+◌, ◌-◌, ◌*◌, ◌/◌, ◌%◌, ◌^◌, ◌<◌, List, [], ◌∷◌, ◌++◌, length, get_or, refl, sym, ap, ◌∙◌, subst, inl, inr, add-one, arith}
 use Rattle.std.specs.Int.{bit_at}
 use Rattle.std.proofs.lemmas.Bool.{cases_lt}
 use Rattle.std.proofs.lemmas.List.{length_push, get_or_push, get_or_append_left}
@@ -32,6 +32,9 @@ total-zero p f = refl
 pub total-suc : (p : ℕ) (f : ℕ → ℕ) (n : ℕ) → total p f (suc n) ≡ f n * 2 ^ (n * p) + total p f n
 unfolding total
 total-suc p f n = refl
+
+pub total_more : (p : ℕ) (f : ℕ → ℕ) (n : ℕ) → total p f (n + 1) ≡ f n * 2 ^ (n * p) + total p f n
+total_more p f n = ap (total p f) (add-one n) ∙ total-suc p f n
 
 pub total_lt : (p : ℕ) (f : ℕ → ℕ) (n : ℕ) → Below p f n → total p f n < 2 ^ (n * p)
 unfolding total

@@ -1,9 +1,9 @@
 -- What the lanes of a row are at one place, and a list of which a part was written.
-use Rattle.std.proofs.Common.{◌≡◌, ℕ, ◌+◌, ◌-◌, ◌*◌, ◌/◌, ◌%◌, ◌^◌, ◌<◌, ◌≤◌, List, ◌++◌, map, take, replicate, length, get_or, bit_and, bit_or, sym, ap, ap₂, ◌∙◌, inl, inr, arith}
+use Rattle.std.proofs.Common.{◌≡◌, ℕ, ◌+◌, ◌-◌, ◌*◌, ◌/◌, ◌%◌, ◌^◌, ◌<◌, ◌≤◌, List, ◌++◌, map, take, drop, replicate, length, get_or, bit_and, bit_or, sym, ap, ap₂, ◌∙◌, inl, inr, arith}
 use lib.Lanes.{zip2}
 use borrow.Rule.Slice.PartMut.{put_mid, post_of}
 use Rattle.std.proofs.lemmas.Bool.{cases_lt}
-use Rattle.std.proofs.lemmas.List.{get_or-take, get_or_append_left, get_or-append_right, get_or-map, length-map, length-take-le}
+use Rattle.std.proofs.lemmas.List.{get_or-take, get_or-drop, get_or_append_left, get_or-append_right, get_or-map, length-map, length-take-le}
 use Rattle.std.proofs.lemmas.Simd.{get_or-zip2, length-zip2, zip2_splat}
 
 shifted_at : (low words : List ℕ) (n offset lane : ℕ) → length words ≡ n → low ≡ map (λ a. a / 2 ^ offset) words → lane < n → get_or low lane 0 ≡ get_or words lane 0 / 2 ^ offset
@@ -38,6 +38,19 @@ two_at into both joined low high masks words next rest n offset up mask lane lon
     ∙ ap (λ a. bit_and a mask)
     (ap (λ l. get_or l lane 0) or ∙ get_or-zip2 bit_or low high lane 0 0 0 (omega arith) (omega arith)
     ∙ ap₂ bit_or (shifted_at low words n offset lane long down within) (ap (λ l. get_or l lane 0) raised ∙ get_or-map (λ a. a * 2 ^ up % 2 ^ 64) next lane 0 0 (omega arith)))
+
+-- a lane of a row that is put above other bits
+pub above_at : (made words up values : List ℕ) (n bits lane : ℕ) → length words ≡ n → length values ≡ n → up ≡ map (λ a. a * 2 ^ bits % 2 ^ 64) values → made ≡ zip2 bit_or words up → lane < n
+    → get_or made lane 0 ≡ bit_or (get_or words lane 0) (get_or values lane 0 * 2 ^ bits % 2 ^ 64)
+above_at made words up values n bits lane long other raised or within =
+    let ups : length up ≡ n = length_made (λ a. a * 2 ^ bits % 2 ^ 64) up values n other raised in
+    ap (λ l. get_or l lane 0) or ∙ get_or-zip2 bit_or words up lane 0 0 0 (omega arith) (omega arith)
+    ∙ ap (bit_or (get_or words lane 0)) (ap (λ l. get_or l lane 0) raised ∙ get_or-map (λ a. a * 2 ^ bits % 2 ^ 64) values lane 0 0 (omega arith))
+
+-- a lane of a load from a place on
+pub loaded_at : (loaded values : List ℕ) (n m first lane : ℕ) → loaded ≡ take n (take m (drop first values)) → lane < n → lane < m → get_or loaded lane 0 ≡ get_or values (first + lane) 0
+loaded_at loaded values n m first lane made within inside =
+    ap (λ l. get_or l lane 0) made ∙ get_or-take n (take m (drop first values)) lane 0 within ∙ get_or-take m (drop first values) lane 0 inside ∙ get_or-drop first values lane 0
 
 -- a list that is right up to a part, and in the part
 pub more_done : (value : ℕ → ℕ) (whole part : List ℕ) (first n : ℕ) → first + n ≤ length whole → length part ≡ n

@@ -2,4 +2,6 @@ pub mod WordBits
 pub mod Fields
 pub mod Values
 pub mod LaneLaws
+pub mod StrandTotals
+pub mod Strands
 pub mod WidthLaws

@@ -1,8 +1,11 @@
 -- A word is the number of its eight bytes, and bit m of it is bit m mod 8 of byte m div 8.
-use Rattle.std.proofs.Common.{◌≡◌, ℕ, zero, suc, ◌+◌, ◌*◌, ◌/◌, ◌%◌, ◌^◌, ◌<◌, List, take, drop, get_or, refl, sym, ap, ◌∙◌, arith}
-use Rattle.std.specs.Int.{bit_at, from_le_bytes, w64}
+use Rattle.std.proofs.Common.{◌≡◌, ℕ, zero, suc, ◌+◌, ◌*◌, ◌/◌, ◌%◌, ◌^◌, ◌<◌, ◌≤◌, ◌-◌, List, take, drop, length, get_or, refl, sym, ap, ◌∙◌, arith}
+use borrow.Rule.Slice.PartMut.{put_mid}
+use Rattle.std.specs.Int.{bit_at, from_le_bytes, to_le_bytes, w64}
 use Rattle.std.specs.Simd.{first_chunks}
 use Rattle.std.proofs.lemmas.List.{get_or-take, get_or-drop, drop-drop}
+use Rattle.std.proofs.lemmas.Nat.{from_le_bytes-to_le_bytes_8}
+use Rattle.std.proofs.lemmas.Slice.{between-put_mid}
 use Rattle.definitions.specs.Packed.{word_bit}
 use Rattle.definitions.proofs.BitLaws.{total, total_lt, total_bit, total_same}
 use Rattle.strand_pack.specs.Words.{word_of}
@@ -56,3 +59,19 @@ get_or-first_chunks n (suc k) xs (suc j) d within =
 pub word_read : (bytes : List ℕ) (k j : ℕ) (d : List ℕ) (words : List (List ℕ)) → words ≡ first_chunks 8 k bytes → j < k → from_le_bytes w64 (get_or words j d) ≡ word_of bytes j
 unfolding word_of
 word_read bytes k j d words cut within = ap (λ l. from_le_bytes w64 (get_or l j d)) cut ∙ ap (from_le_bytes w64) (get_or-first_chunks 8 k bytes j d within)
+
+-- a word depends on its bytes alone
+pub word_of-same : (a b : List ℕ) (j : ℕ) → ((k : ℕ) → k < 8 → get_or a (8 * j + k) 0 ≡ get_or b (8 * j + k) 0) → word_of a j ≡ word_of b j
+unfolding byte_of
+word_of-same a b j same = word_total a j ∙ total_same 8 (byte_of a j) (byte_of b j) 8 same ∙ sym (word_total b j)
+
+-- a word that was written is read back
+pub word_written : (bytes part : List ℕ) (word place e : ℕ) → word < 2 ^ 64 → e ≡ 8 * place + 8 → e ≤ length bytes → part ≡ to_le_bytes w64 word
+    → word_of (put_mid (8 * place) (e - 8 * place) bytes part) place ≡ word
+unfolding word_of
+word_written bytes part word place e fits ends inside spelled =
+    let long : length part ≡ 8 = ap length spelled in
+    let count : e - 8 * place ≡ 8 = omega arith in
+    let cut : take (e - 8 * place) (drop (8 * place) (put_mid (8 * place) (e - 8 * place) bytes part)) ≡ part = between-put_mid (8 * place) (e - 8 * place) bytes part e (omega arith) (long ∙ sym count) in
+    ap (λ n. from_le_bytes w64 (take n (drop (8 * place) (put_mid (8 * place) (e - 8 * place) bytes part)))) (sym count)
+    ∙ ap (from_le_bytes w64) (cut ∙ spelled) ∙ from_le_bytes-to_le_bytes_8 word fits

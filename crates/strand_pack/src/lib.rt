@@ -5,11 +5,13 @@
 //! packing of Lemire and Boytsov, with 16 columns of 64-bit words.
 #![tactic(auto)]
 
+mod packing;
 mod picking;
 mod unpacking;
 mod widths;
 mod words;
 
+pub use packing::pack;
 pub use picking::pick;
 pub use unpacking::unpack;
 pub use widths::width_of;

@@ -8,12 +8,9 @@ ghost use Rattle.definitions.specs.Blocks.{block_len};
 ghost use Rattle.definitions.specs.Packed.{IsPacked};
 ghost use Rattle.strand_pack.specs.Words.{word_of, field, value_in};
 
-use crate::words::{STRANDS, WORD_BITS, words_at};
+use crate::words::{ROWS, STRANDS, WORD_BITS, words_at};
 use block_core::Block;
 use lane_core::Lanes;
-
-/// How many rows a block has.
-const ROWS: usize = 64;
 
 /// Leaves in `into` the block that these `128 * width` bytes are at the width. Any bytes of this length are one. At a lane
 /// width `L` other than 1, 2, 4, 8 and 16 it works as at 1.

@@ -9,6 +9,9 @@ use lane_core::Lanes;
 /// How many words stand side by side, one for each strand.
 pub const STRANDS: usize = 16;
 
+/// How many rows a block has: 16 values, one in each strand.
+pub const ROWS: usize = 64;
+
 /// How many bits a word has.
 pub const WORD_BITS: usize = 64;
 
@@ -36,3 +39,36 @@ pub fn words_at<const L: usize>(bytes: &[u8], place: usize) -> Lanes<L>
     }
     Lanes::load(&words)
 }
+
+/// Writes a word at a place.
+#[inline(always)]
+pub fn put_word(word: u64, into: &mut [u8], place: usize)
+    requires { 8 * place + 8 ≤ length into.old }
+    ensures written { word_of into.new place ≡ word }
+    ensures below { (k : ℕ) → k < 8 * place → slice_index into.new k ≡ slice_index into.old k }
+    ensures above { (k : ℕ) → 8 * place + 8 ≤ k → slice_index into.new k ≡ slice_index into.old k }
+{
+    into[8 * place..8 * place + 8].copy_from_slice(&word.to_le_bytes());
+}
+
+/// Writes the words from a place on, one from each lane.
+#[inline(always)]
+pub fn put_words<const L: usize>(words: Lanes<L>, into: &mut [u8], place: usize)
+    requires few { L ≤ 16 }
+    requires inside { 8 * (place + L) ≤ length into.old }
+    ensures written { (lane : ℕ) → lane < L → word_of into.new (place + lane) ≡ slice_index words.entry lane }
+    ensures below { (k : ℕ) → k < 8 * place → slice_index into.new k ≡ slice_index into.old k }
+    ensures above { (k : ℕ) → 8 * (place + L) ≤ k → slice_index into.new k ≡ slice_index into.old k }
+{
+    let mut copied = [0; L];
+    words.store(&mut copied);
+    for lane in 0..L {
+        put_word(copied[lane], into, place + lane);
+    }
+}
+
+/// That a byte is below 2^8 follows from the type of a slice. A call tells it to the proof, and costs nothing.
+#[inline(always)]
+pub fn bytes_fit(bytes: &[u8])
+    ensures { (k : ℕ) → slice_index bytes.now k < 2 ^ 8 }
+{}
