@@ -4,6 +4,8 @@
 //! Without words it does nothing.
 #![tactic(auto)]
 
+ghost use Rattle.std.specs.Prelude.{◌≤◌};
+
 mod rounds;
 
 use rounds::{pack_rounds, unpack_rounds};

@@ -13,20 +13,31 @@ const BLOCKS: usize = 8;
 /// How many bytes a block packed at 64 bits takes.
 const MOST_BYTES: usize = 8192;
 
+/// The low bits of a value.
+fn low_bits(value: u64, width: u8) -> u64
+    requires { width ≤ 64 }
+    ensures { result < 2 ^ width }
+{
+    if width == 64 {
+        value
+    } else {
+        value % (1u64 << width)
+    }
+}
+
 /// Values below 2^width that differ from place to place.
 fn block_below(width: u8) -> Block
     requires { width ≤ 64 }
     ensures whole { length result ≡ block_len }
     ensures small { AreBelow width result }
 {
-    let mask = if width == 64 { u64::MAX } else { (1u64 << width) - 1 };
     let mut block = Block::new();
     let mut value = 1u64;
-    for _ in 0..1024 {
+    for _place in 0..1024u32 {
         value = value
             .wrapping_mul(6_364_136_223_846_793_005)
             .wrapping_add(1_442_695_040_888_963_407);
-        block.push((value >> 7 ^ value) & mask);
+        block.push(low_bits(value >> 7 ^ value, width));
     }
     block
 }

@@ -13,3 +13,5 @@ pub mod Blocks
 pub mod Packed
 pub mod Steps
 pub mod Spellings
+pub mod Differences
+pub mod Runs

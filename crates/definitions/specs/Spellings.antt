@@ -1,7 +1,7 @@
 -- How a full block is spelled in each format.
-use Rattle.std.specs.Prelude.{◌≡◌, ℕ, ◌^◌, Bool, not, nat_lt, List, ◌∷◌}
+use Rattle.std.specs.Prelude.{◌≡◌, ℕ, ◌^◌, ◌<◌, Bool, not, nat_lt, List, ◌∷◌, ◌++◌}
 use Rattle.std.specs.List.{list_all, prefix_len, range_with_len}
-use Rattle.definitions.specs.Columns.{words_of}
+use Rattle.definitions.specs.Columns.{word_bytes, words_of}
 use Rattle.definitions.specs.Blocks.{IsFull}
 use Rattle.definitions.specs.Packed.{IsPacked}
 
@@ -24,3 +24,11 @@ pub record IsDynamicBlock (values bytes : List ℕ) : Type 0 where
   pub packed : List ℕ
   pub packing : IsPacked (width_of values) values packed
   pub spelled : bytes ≡ width_of values ∷ packed
+
+-- a cascade: the block's base in eight bytes, and then its differences as another format spells them
+pub record IsCascade (base_of : List ℕ → ℕ) (differences_of : List ℕ → List ℕ) (spells : List ℕ → List ℕ → Type 0) (values bytes : List ℕ) : Type 0 where
+  pub full : IsFull values
+  pub word : base_of values < 2 ^ 64
+  pub inner : List ℕ
+  pub differences : spells (differences_of values) inner
+  pub spelled : bytes ≡ word_bytes (base_of values) ++ inner
