@@ -1,11 +1,11 @@
 -- How a file of the format `plain` falls into its head and its body.
-use Rattle.std.proofs.Common.{◌≡◌, ℕ, ◌+◌, ◌*◌, ◌≤◌, List, ◌++◌, length, take, drop, sym, ap, ◌∙◌, arith, map}
+use Rattle.std.proofs.Common.{◌≡◌, ℕ, ◌+◌, ◌*◌, ◌≤◌, List, ◌++◌, length, take, drop, sym, ap, ◌∙◌, arith}
 use Rattle.std.specs.List.{AllByRecursion}
-use Rattle.std.specs.Simd.{first_chunks}
 use Rattle.std.proofs.lemmas.List.{length-append, take_at, drop_at}
 use Rattle.definitions.specs.Columns.{max_rows, IsWord, plain_tag, column_head, words_of, IsPlainFile}
-use Rattle.column_core.specs.Words.{number_of, HasPlainBody}
-use Rattle.column_core.proofs.WordsLemmas.{length-word_bytes, length-words_of, numbers-words_of}
+use Rattle.column_core.specs.Words.{HasPlainBody}
+use Rattle.definitions.proofs.WordLaws.{length-word_bytes}
+use Rattle.column_core.proofs.WordsLemmas.{length-words_of}
 
 pub length-column_head : (tag width count : ℕ) → length (column_head tag width count) ≡ 16
 length-column_head tag width count = omega (arith, length-word_bytes count)
@@ -40,15 +40,3 @@ plain_file_from_body bytes body values has is words =
       spelled = has.spelled ∙ ap (λ (back : List ℕ). column_head plain_tag 0 has.count ++ back) (sym is)
           ∙ ap (λ (rows : ℕ). column_head plain_tag 0 rows ++ words_of values) count;
     }
-
--- A file is the file of one column alone.
-pub plain_file_spells_one : (bytes values others : List ℕ) → IsPlainFile bytes values → IsPlainFile bytes others → values ≡ others
-plain_file_spells_one bytes values others is are =
-    let one = plain_parts bytes values is in
-    let other = plain_parts bytes others are in
-    let same_length : length values ≡ length others = omega (arith, one.whole, other.whole) in
-    let same_words : words_of values ≡ words_of others = sym one.body ∙ other.body in
-    sym (numbers-words_of values is.column.words)
-    ∙ ap (λ (body : List ℕ). map number_of (first_chunks 8 (length values) body)) same_words
-    ∙ ap (λ (count : ℕ). map number_of (first_chunks 8 count (words_of others))) same_length
-    ∙ numbers-words_of others are.column.words

@@ -2,26 +2,18 @@
 use Rattle.std.proofs.Common.{◌≡◌, ℕ, zero, suc, ◌+◌, ◌*◌, ◌^◌, ◌<◌, List, [], ◌∷◌, ◌++◌, length, map, take, drop, get_or, refl, sym, ap, ◌∙◌, arith, subst}
 use Rattle.std.specs.List.{AllByRecursion}
 use Rattle.std.specs.Simd.{first_chunks}
-use Rattle.std.proofs.lemmas.Nat.{le_bytes_8, from_le_bytes-to_le_bytes_8}
-use Rattle.std.proofs.lemmas.List.{length-append, length-take, length-drop, get_or-take, get_or-drop, get_or_past, take-append-drop, take_at, drop_at, nil_from_length}
+use Rattle.std.proofs.lemmas.List.{length-append, length-take, length-drop, get_or-take, get_or-drop, get_or_past, take-append-drop, nil_from_length}
 use Rattle.definitions.specs.Columns.{IsWord, word_bytes, words_of}
+use Rattle.definitions.proofs.WordLaws.{length-word_bytes, word_bytes-from_le_bytes}
 use Rattle.column_core.specs.Words.{number_of}
-
-pub length-word_bytes : (value : ℕ) → length (word_bytes value) ≡ 8
-unfolding word_bytes
-length-word_bytes value = refl
-
-pub number_of-word_bytes : (value : ℕ) → value < 2 ^ 64 → number_of (word_bytes value) ≡ value
-unfolding word_bytes number_of
-number_of-word_bytes value below = from_le_bytes-to_le_bytes_8 value below
 
 -- a list of bytes
 pub record AreBytes (bytes : List ℕ) : Type 0 where
   pub below : (k : ℕ) → get_or bytes k 0 < 256
 
 pub word_bytes-number_of : (word : List ℕ) → length word ≡ 8 → AreBytes word → word_bytes (number_of word) ≡ word
-unfolding word_bytes number_of
-word_bytes-number_of word whole bytes = le_bytes_8 word (number_of word) whole bytes.below refl
+unfolding number_of
+word_bytes-number_of word whole bytes = word_bytes-from_le_bytes word whole bytes.below
 
 pub length-words_of : (values : List ℕ) → length (words_of values) ≡ length values * 8
 length-words_of [] = refl
@@ -55,16 +47,3 @@ words_of-numbers (suc count) body whole are =
     words_of-numbers count (drop 8 body) (omega (arith, length-drop 8 body)) (AreBytes-drop 8 body are) in
     ap (λ (front : List ℕ). front ++ words_of (map number_of (first_chunks 8 count (drop 8 body)))) first
     ∙ ap (λ (back : List ℕ). take 8 body ++ back) rest ∙ take-append-drop 8 body
-
--- The numbers of the words of a column are the column.
-pub numbers-words_of : (values : List ℕ) → AllByRecursion IsWord values → map number_of (first_chunks 8 (length values) (words_of values)) ≡ values
-numbers-words_of [] words = refl
-numbers-words_of (value ∷ values) words =
-    let word = word_bytes value in
-    let rest = words_of values in
-    let first : number_of (take 8 (word ++ rest)) ≡ value =
-    ap number_of (take_at word rest 8 (length-word_bytes value)) ∙ number_of-word_bytes value words.0 in
-    let later : map number_of (first_chunks 8 (length values) (drop 8 (word ++ rest))) ≡ values =
-    ap (λ (body : List ℕ). map number_of (first_chunks 8 (length values) body)) (drop_at word rest 8 (length-word_bytes value))
-    ∙ numbers-words_of values words.1 in
-    ap (λ (n : ℕ). n ∷ map number_of (first_chunks 8 (length values) (drop 8 (word ++ rest)))) first ∙ ap (λ (ns : List ℕ). value ∷ ns) later

@@ -1,10 +1,7 @@
 -- What contracts see of the forms in memory.
-use Rattle.std.specs.Prelude.{ℕ, ◌+◌, ◌-◌, ◌^◌, min, Bool, ◌||◌, ◌&&◌, List, length, nat_eq, nat_lt, nat_le, if◌then◌else◌}
+use Rattle.std.specs.Prelude.{ℕ, Bool, ◌||◌, ◌&&◌, List, length, nat_eq, nat_lt, nat_le, if◌then◌else◌}
 use Rattle.std.specs.List.{list_any}
-
--- a count one greater, up to the greatest that 64 bits hold
-abbrev pub next_count : ℕ → ℕ
-next_count count = min (count + 1) (2 ^ 64 - 1)
+use Rattle.definitions.specs.Steps.{next_count}
 
 -- whether the call of this number is to fail
 abbrev pub is_failing : List ℕ → ℕ → Bool

@@ -4,7 +4,8 @@ ghost use Rattle.std.specs.Prelude.{◌≡◌, ℕ, ◌+◌, ◌-◌, ◌^◌, �
 ghost use Rattle.std.specs.Io.{ReadsAtMost, WritesAtMost};
 ghost use Rattle.std.specs.Io.KnownBytes.{ReadConsumes, WriteAppends};
 ghost use Rattle.definitions.specs.Faults.{Rose, HasCause};
-ghost use Rattle.stream_core.specs.Memory.{next_count, is_failing, cannot_write, faults_after};
+ghost use Rattle.definitions.specs.Steps.{next_count};
+ghost use Rattle.stream_core.specs.Memory.{is_failing, cannot_write, faults_after};
 ghost use Rattle.stream_core.specs.Stores.{Replaces, IsLoaded, IsSaved};
 
 use crate::{Bytes, Failed, List, LoadError, SaveError, Sink, Source, Store};
