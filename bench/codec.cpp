@@ -8,7 +8,13 @@
 #include <string>
 
 constexpr int STRANDS = 16, ROWS = 64, BLOCKS = 8;
-typedef uint64_t lanes __attribute__((vector_size(64), aligned(8), may_alias));
+// as many lanes as a register of the processor level has
+#ifdef __AVX2__
+constexpr int REGISTER = 32;
+#else
+constexpr int REGISTER = 16;
+#endif
+typedef uint64_t lanes __attribute__((vector_size(REGISTER), aligned(8), may_alias));
 
 struct Scalar {
     static constexpr int LANES = 1;
@@ -16,7 +22,7 @@ struct Scalar {
 };
 
 struct Vector {
-    static constexpr int LANES = 8;
+    static constexpr int LANES = REGISTER / 8;
     typedef lanes word;
 };
 

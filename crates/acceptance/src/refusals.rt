@@ -1,10 +1,9 @@
 //! Texts, words and files out of form.
 
-use crate::worlds::{example, now_file, query, sink, source};
+use crate::worlds::{example, example_without, query, sink, source};
 use column_core::encode_plain;
 use engine_tool::run;
 use std::test::Fail;
-use stream_core::{List, MemStore};
 
 const TEXT: &[u8] = b"select sum(a) from t where b between 3 and 7";
 
@@ -145,32 +144,11 @@ fn a_file_cut_at_any_byte_is_refused(rt: HostRuntime) -> Result<(), Fail> {
 #[test]
 fn a_missing_file_is_refused(rt: HostRuntime) -> Result<(), Fail> {
     let alloc = rt.alloc();
-    let files = [
-        ("t.now", now_file(5).to_vec(alloc)?),
-        (
-            "t.a.a.col",
-            encode_plain(alloc, &[10, 20, 30, 40, 50])?.into_vec(),
-        ),
-        (
-            "t.a.b.col",
-            encode_plain(alloc, &[2, 3, 5, 7, 8])?.into_vec(),
-        ),
-    ];
-    for missing in ["t.now", "t.a.a.col", "t.a.b.col", ""] {
-        let mut store = MemStore::new(alloc, List::from_vec(Vec::new(alloc)));
-        for (name, bytes) in &files {
-            if *name != missing {
-                store.put(alloc, name, bytes.as_slice())?;
-            }
-        }
+    for missing in ["t.now", "t.a.a.col", "t.a.b.col"] {
+        let mut store = example_without(alloc, missing)?;
         let (status, written) = query(alloc, &mut store, TEXT)?;
-        if missing.is_empty() {
-            assert_eq!(rt; status, 0, "no file is missing");
-            assert_eq!(rt; written.as_slice(), b"90\n".as_slice());
-        } else {
-            assert_eq!(rt; status, 4, "without {missing}");
-            assert_eq!(rt; written.as_slice(), b"database: not built\n".as_slice());
-        }
+        assert_eq!(rt; status, 4, "without {missing}");
+        assert_eq!(rt; written.as_slice(), b"database: not built\n".as_slice());
     }
     Ok(())
 }

@@ -10,13 +10,25 @@ pub fn now_file(rows: u8) -> [u8; 13] {
     [b'M', b'N', b'O', b'W', b'a', rows, 0, 0, 0, 0, 0, 0, 0]
 }
 
-/// The files of table `t` with five rows: `a` is 10, 20, 30, 40, 50 and `b` is 2, 3, 5, 7, 8.
+/// The files of table `t` with five rows: `a` is 10, 20, 30, 40, 50 and `b` is 2, 3, 5, 7, 8. One of them may be left out.
+fn put_example_but(alloc: Global, store: &mut MemStore, missing: &str) -> Result<(), AllocError> {
+    if missing != "t.now" {
+        store.put(alloc, "t.now", &now_file(5))?;
+    }
+    if missing != "t.a.a.col" {
+        let a = encode_plain(alloc, &[10, 20, 30, 40, 50])?;
+        store.put(alloc, "t.a.a.col", a.as_slice())?;
+    }
+    if missing != "t.a.b.col" {
+        let b = encode_plain(alloc, &[2, 3, 5, 7, 8])?;
+        store.put(alloc, "t.a.b.col", b.as_slice())?;
+    }
+    Ok(())
+}
+
+/// All the files.
 pub fn put_example(alloc: Global, store: &mut MemStore) -> Result<(), AllocError> {
-    store.put(alloc, "t.now", &now_file(5))?;
-    let a = encode_plain(alloc, &[10, 20, 30, 40, 50])?;
-    store.put(alloc, "t.a.a.col", a.as_slice())?;
-    let b = encode_plain(alloc, &[2, 3, 5, 7, 8])?;
-    store.put(alloc, "t.a.b.col", b.as_slice())
+    put_example_but(alloc, store, "")
 }
 
 /// A list of numbers.
@@ -24,11 +36,16 @@ pub fn numbers(alloc: Global, numbers: &[u64]) -> Result<List<u64>, AllocError> 
     Ok(List::from_vec(Vec::from_slice(alloc, numbers)?))
 }
 
+/// The example's files but one, with no failing call.
+pub fn example_without(alloc: Global, missing: &str) -> Result<MemStore, AllocError> {
+    let mut store = MemStore::new(alloc, List::from_vec(Vec::new(alloc)));
+    put_example_but(alloc, &mut store, missing)?;
+    Ok(store)
+}
+
 /// The example's files, with no failing call.
 pub fn example(alloc: Global) -> Result<MemStore, AllocError> {
-    let mut store = MemStore::new(alloc, List::from_vec(Vec::new(alloc)));
-    put_example(alloc, &mut store)?;
-    Ok(store)
+    example_without(alloc, "")
 }
 
 /// An input of this text, handed out in pieces of seven bytes, and an output with room.
