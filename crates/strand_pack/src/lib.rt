@@ -7,6 +7,8 @@
 
 mod packing;
 mod picking;
+#[cfg(test)]
+mod round_trips;
 mod unpacking;
 mod widths;
 mod words;

@@ -2,6 +2,7 @@
 //! are read and written by vectors.
 
 ghost use Rattle.std.specs.Prelude.{◌≡◌, ℕ, ◌+◌, ◌*◌, ◌^◌, ◌<◌, ◌≤◌, length, slice_index};
+ghost use Rattle.std.specs.Int.{to_le_bytes, w64};
 ghost use Rattle.strand_pack.specs.Words.{word_of};
 
 use lane_core::Lanes;
@@ -48,7 +49,18 @@ pub fn put_word(word: u64, into: &mut [u8], place: usize)
     ensures below { (k : ℕ) → k < 8 * place → slice_index into.new k ≡ slice_index into.old k }
     ensures above { (k : ℕ) → 8 * place + 8 ≤ k → slice_index into.new k ≡ slice_index into.old k }
 {
-    into[8 * place..8 * place + 8].copy_from_slice(&word.to_le_bytes());
+    set_word(word, &mut into[8 * place..8 * place + 8]);
+}
+
+// As an array the eight bytes are written by one store.
+#[inline(always)]
+fn set_word(word: u64, into: &mut [u8])
+    requires { length into.old ≡ 8 }
+    ensures { into.new ≡ to_le_bytes w64 word }
+{
+    if let Some(bytes) = into.as_mut_array::<8>() {
+        *bytes = word.to_le_bytes();
+    }
 }
 
 /// Writes the words from a place on, one from each lane.
