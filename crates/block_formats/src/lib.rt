@@ -7,6 +7,8 @@
 mod dynamic_blocks;
 mod plain_blocks;
 mod static_blocks;
+mod widths;
+mod words;
 
 pub use dynamic_blocks::Dynamic;
 pub use plain_blocks::Words;

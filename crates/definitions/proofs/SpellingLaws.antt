@@ -140,7 +140,7 @@ words_of-octet (value ∷ values) i =
       | inr late ↦ subst (λ n. n < 256) (sym (get_or-append_right (word_bytes value) (words_of values) 8 i 0 long late)) (words_of-octet values (i - 8))
     ]
 
-take-octet : (n : ℕ) (bytes : List ℕ) → ((k : ℕ) → get_or bytes k 0 < 256) → (k : ℕ) → get_or (take n bytes) k 0 < 256
+pub take-octet : (n : ℕ) (bytes : List ℕ) → ((k : ℕ) → get_or bytes k 0 < 256) → (k : ℕ) → get_or (take n bytes) k 0 < 256
 take-octet n bytes octets k =
     elim (cases_lt k n) [
       | inl within ↦ subst (λ v. v < 256) (sym (get_or-take n bytes k 0 within)) (octets k)
@@ -176,17 +176,54 @@ IsPlainBlock-size values bytes p = omega (arith, ap length p.spelled, length-wor
 pub IsPlainBlock-octet : (values bytes : List ℕ) → IsPlainBlock values bytes → (i : ℕ) → slice_index bytes i < 256
 IsPlainBlock-octet values bytes p i = subst (λ l. get_or l i 0 < 256) (sym p.spelled) (words_of-octet values i)
 
+-- a word is one of 64 bits
+word_lt : (word : List ℕ) → ((k : ℕ) → get_or word k 0 < 256) → from_le_bytes w64 word < 2 ^ 64
+word_lt word octets = omega (arith, octets 0, octets 1, octets 2, octets 3, octets 4, octets 5, octets 6, octets 7)
+
+pub drop-octet : (n : ℕ) (bytes : List ℕ) → ((k : ℕ) → get_or bytes k 0 < 256) → (k : ℕ) → get_or (drop n bytes) k 0 < 256
+drop-octet n bytes octets k = subst (λ v. v < 256) (sym (get_or-drop n bytes k 0)) (octets (n + k))
+
+-- the numbers of a list's words are a block
+pub IsPlainBlock-read : (values bytes : List ℕ) → length values ≡ block_len → length bytes ≡ 8192 → ((k : ℕ) → slice_index bytes k < 256)
+    → ((i : ℕ) → i < length values → from_le_bytes w64 (take 8 (drop (8 * i) bytes)) ≡ slice_index values i) → IsPlainBlock values bytes
+IsPlainBlock-read values bytes long size octets each =
+    record {
+      full = record {
+        whole = long;
+        words = words_from_below values (λ i within. subst (λ v. v < 2 ^ 64) (each i within) (word_lt (take 8 (drop (8 * i) bytes)) (take-octet 8 (drop (8 * i) bytes) (drop-octet (8 * i) bytes octets))));
+      };
+      spelled = sym (words_of-from_words values bytes (omega arith) octets each);
+    }
+
 -- where two spellings begin the same bytes, they are one, and of one block
 pub IsPlainBlock-front : (values others a b x y : List ℕ) → IsPlainBlock values a → IsPlainBlock others b → a ++ x ≡ b ++ y → (a ≡ b) × (values ≡ others)
 IsPlainBlock-front values others a b x y p q e =
     let front : a ≡ b = same_front a b x y (IsPlainBlock-size values a p ∙ sym (IsPlainBlock-size others b q)) e in
     (front, words_of-one values others p.full.words q.full.words (sym p.spelled ∙ front ∙ q.spelled))
 
+pub IsPlainBlock-sized : (values others a b : List ℕ) → IsPlainBlock values a → IsPlainBlock others b → length a ≡ length b
+IsPlainBlock-sized values others a b p q = IsPlainBlock-size values a p ∙ sym (IsPlainBlock-size others b q)
+
+-- the words that bytes are
+unfoldable pub plain_values : List ℕ → List ℕ
+plain_values bytes = table (λ i. from_le_bytes w64 (take 8 (drop (8 * i) bytes))) 1024
+
+-- any bytes of the right size are a block
+pub IsPlainBlock-values : (bytes : List ℕ) → length bytes ≡ 8192 → ((i : ℕ) → slice_index bytes i < 256) → IsPlainBlock (plain_values bytes) bytes
+unfolding plain_values
+IsPlainBlock-values bytes size octets =
+    let value : ℕ → ℕ = λ i. from_le_bytes w64 (take 8 (drop (8 * i) bytes)) in
+    let long : length (table value 1024) ≡ 1024 = length-table value 1024 in
+    IsPlainBlock-read (table value 1024) bytes long size octets (λ i within. sym (get_or-table value 1024 i (omega (arith, long))))
+
 -- A block packed at its own width.
 
 -- the block is one of 64-bit numbers
 pub IsPacked-full : (width : ℕ) (values bytes : List ℕ) → IsPacked width values bytes → IsFull values
 IsPacked-full width values bytes p = record { whole = p.count; words = words_from_below values (AreBelow-wider width 64 values p.narrow p.small) }
+
+pub IsPacked-sized : (width : ℕ) (values others a b : List ℕ) → IsPacked width values a → IsPacked width others b → length a ≡ length b
+IsPacked-sized width values others a b p q = p.size ∙ sym q.size
 
 -- packed at the width of the block, and the width before it
 pub IsDynamicBlock-packed : (width : ℕ) (values packed : List ℕ) → IsPacked width values packed → IsWidth width values → IsDynamicBlock values (width ∷ packed)
@@ -211,6 +248,10 @@ IsDynamicBlock-one values a b p q =
 
 pub IsDynamicBlock-size : (values bytes : List ℕ) → IsDynamicBlock values bytes → length bytes ≡ 1 + 128 * width_of values
 IsDynamicBlock-size values bytes p = omega (arith, ap length p.spelled, p.packing.size)
+
+-- blocks of one width have spellings of one length
+pub IsDynamicBlock-sized : (values others a b : List ℕ) → IsDynamicBlock values a → IsDynamicBlock others b → width_of values ≡ width_of others → length a ≡ length b
+IsDynamicBlock-sized values others a b p q same = IsDynamicBlock-size values a p ∙ ap (λ w. 1 + 128 * w) same ∙ sym (IsDynamicBlock-size others b q)
 
 octet_cons : (value : ℕ) (bytes : List ℕ) → value < 256 → ((i : ℕ) → slice_index bytes i < 256) → (i : ℕ) → slice_index (value ∷ bytes) i < 256
 octet_cons value bytes here rest zero = here
