@@ -41,7 +41,7 @@ impl<const L: usize> Packing for Dynamic<L> {
             return None;
         }
         let end = 1 + packed_len(width);
-        if !is_least::<L>(&bytes[1..end], width) {
+        if !is_least(&bytes[1..end], width) {
             return None;
         }
         Some((width, end))

@@ -187,3 +187,25 @@ fn a_width_above_the_least_is_refused(rt: HostRuntime) -> Result<(), Fail> {
     }
     Ok(())
 }
+
+/// At width 1 value 1,023 is the highest bit of the last byte.
+#[test]
+fn the_last_value_alone_can_need_the_width(rt: HostRuntime) -> Result<(), Fail> {
+    let mut bytes = bytes_behind(rt.alloc(), &[1], 0, 127)?;
+    bytes.push(0x80)?;
+    assert_eq!(rt; Dynamic::<8>::check((), bytes.as_slice()), Some((1, 129)));
+    Ok(())
+}
+
+#[test]
+fn the_little_end_of_a_word_comes_first(rt: HostRuntime) -> Result<(), Fail> {
+    let word = [0, 0, 0, 0, 0, 0, 0, 0, 1, 2, 3, 4, 5, 6, 7, 8];
+    let bytes = bytes_behind(rt.alloc(), &word, 0, 8176)?;
+    let mut again = vec![in rt.alloc(); 9; bytes.len()]?;
+    let mut block = Block::new();
+    let found = read_and_spell::<Words>((), bytes.as_slice(), &mut block, again.as_mut_slice());
+    assert_eq!(rt; found, Some(((), 8192, true)));
+    assert_eq!(rt; block.as_slice().get(1), Some(&0x0807_0605_0403_0201));
+    assert_eq!(rt; again.as_slice(), bytes.as_slice());
+    Ok(())
+}
