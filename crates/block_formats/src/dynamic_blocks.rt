@@ -1,7 +1,9 @@
 //! The format `dynamic`: packed at the block's own width, which stands before it.
 
 ghost use Rattle.definitions.specs.Spellings.{IsDynamicBlock, width_of};
+ghost use Rattle.definitions.proofs.SpellingLaws.{IsDynamicBlock-octet, IsDynamicBlock-one, IsDynamicBlock-front, IsDynamicBlock-sized};
 
+use crate::widths::{MAX_WIDTH, is_least, packed_len};
 use block_core::{Block, Packing};
 
 /// A byte for the least width that holds the values, and the block packed at it: `1 + 128 * width` bytes. The head is the
@@ -17,5 +19,43 @@ impl<const L: usize> Packing for Dynamic<L> {
 
     ghost block_head = { λ _ values. width_of values };
 
-    // head_of (strand_pack::width_of), byte_len, encode, check, decode, laws
+    fn head_of(_param: (), full: &Block) -> u8 {
+        strand_pack::width_of(full)
+    }
+
+    fn byte_len(_param: (), width: u8) -> usize {
+        1 + packed_len(width)
+    }
+
+    fn encode(_param: (), width: u8, full: &Block, into: &mut [u8]) {
+        into[0] = width;
+        strand_pack::pack::<L>(full, width, &mut into[1..]);
+    }
+
+    fn check(_param: (), bytes: &[u8]) -> Option<(u8, usize)> {
+        if bytes.is_empty() {
+            return None;
+        }
+        let width = bytes[0];
+        if width > MAX_WIDTH || bytes.len() - 1 < packed_len(width) {
+            return None;
+        }
+        let end = 1 + packed_len(width);
+        if !is_least(&bytes[1..end], width) {
+            return None;
+        }
+        Some((width, end))
+    }
+
+    fn decode(_param: (), width: u8, bytes: &[u8], into: &mut Block) {
+        strand_pack::unpack::<L>(&bytes[1..], width, into);
+    }
+
+    ghost laws = { record {
+      full = λ _ values bytes p. p.full;
+      octets = λ _ values bytes p. IsDynamicBlock-octet values bytes p;
+      one = λ _ values a b p q. IsDynamicBlock-one values a b p q;
+      front = λ _ values others a b x y p q e. IsDynamicBlock-front values others a b x y p q e;
+      sized = λ _ values others a b p q same. IsDynamicBlock-sized values others a b p q same;
+    } };
 }

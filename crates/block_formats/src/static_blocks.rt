@@ -1,7 +1,10 @@
 //! The format `static`: packed at one width for the whole column.
 
 ghost use Rattle.definitions.specs.Packed.{IsPacked};
+ghost use Rattle.definitions.proofs.PackedLaws.{packed_one_spelling, packed_prefix};
+ghost use Rattle.definitions.proofs.SpellingLaws.{IsPacked-full, IsPacked-sized};
 
+use crate::widths::{MAX_WIDTH, packed_len};
 use block_core::{Block, Packing};
 
 /// A block packed at the column's width, in `128 * width` bytes. The param is the width; a block with a value of 2^width or
@@ -17,5 +20,32 @@ impl<const L: usize> Packing for Static<L> {
 
     ghost block_head = { λ _ _. tt };
 
-    // head_of, byte_len, encode (strand_pack::pack::<L>), check, decode (strand_pack::unpack::<L>), laws
+    fn head_of(_width: u8, _full: &Block) {}
+
+    fn byte_len(width: u8, _head: ()) -> usize {
+        packed_len(width)
+    }
+
+    fn encode(width: u8, _head: (), full: &Block, into: &mut [u8]) {
+        strand_pack::pack::<L>(full, width, into);
+    }
+
+    fn check(width: u8, bytes: &[u8]) -> Option<((), usize)> {
+        if width > MAX_WIDTH || bytes.len() < packed_len(width) {
+            return None;
+        }
+        Some(((), packed_len(width)))
+    }
+
+    fn decode(width: u8, _head: (), bytes: &[u8], into: &mut Block) {
+        strand_pack::unpack::<L>(bytes, width, into);
+    }
+
+    ghost laws = { record {
+      full = IsPacked-full;
+      octets = λ width values bytes p. p.octets;
+      one = packed_one_spelling;
+      front = packed_prefix;
+      sized = λ width values others a b p q _. IsPacked-sized width values others a b p q;
+    } };
 }

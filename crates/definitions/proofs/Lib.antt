@@ -2,5 +2,6 @@ pub mod BitLaws
 pub mod WordLaws
 pub mod PlainLaws
 pub mod PackedLaws
+pub mod SpellingLaws
 pub mod SumLaws
 pub mod WorkedExamples

@@ -1,0 +1,18 @@
+use Rattle.std.proofs.Common.{take, refl, arith}
+use Rattle.std.proofs.lemmas.List.{length-take}
+use Rattle.definitions.proofs.PackedLaws.{packed_values, IsPacked-values}
+use Rattle.definitions.proofs.SpellingLaws.{take-octet}
+use Rattle.block_formats.proofs.static_blocks.StaticPacking.check.Goals as goal
+
+pub returns : goal.returns
+returns g c =
+    let bytes = c.args.bytes.now in
+    let width = c.args.width in
+    let count = c.packed_len-2.result in
+    let front = take count bytes in
+    record {
+      values = packed_values width front;
+      spelled = IsPacked-values width front (omega arith) (omega (arith, length-take count bytes)) (take-octet count bytes (λ k. (c.type_inv.bytes k).fits));
+      headed = refl;
+      within = omega arith;
+    }

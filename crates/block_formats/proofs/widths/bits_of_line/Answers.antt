@@ -1,0 +1,18 @@
+use Rattle.std.proofs.Common.{◌+◌, ◌*◌, ◌/◌, [], length, ap, ◌∙◌, arith}
+use Rattle.std.specs.Int.{bit_at}
+use Rattle.definitions.specs.Packed.{word_bit}
+use Rattle.strand_pack.proofs.WordBits.{word_read, word_of-bit}
+use Rattle.block_formats.proofs.HighestBits.{bit_at-none, line_more}
+use Rattle.block_formats.proofs.widths.bits_of_line.Goals as goal
+
+pub loop-strand-init : goal.loop-strand-init
+loop-strand-init c = λ bit within. ((λ _ s below. absurd (omega arith)), (λ _. bit_at-none bit))
+
+pub loop-strand-preserved : goal.loop-strand-preserved
+loop-strand-preserved c = λ bit within.
+    let packed = c.args.packed.now in
+    let place = c.args.line * 16 + c.loop-strand.strand in
+    let word = c.from_le_bytes-all.ensures ∙ word_read packed (length packed / 8) place [] c.as_chunks.result.0.now c.as_chunks.ensures.front (omega arith) in
+    line_more c.loop-strand.all c.from_le_bytes-all.result bit (λ s. word_bit packed (c.args.line * 16 + s) bit) c.loop-strand.strand
+    (ap (λ n. bit_at n bit) word ∙ word_of-bit packed place bit (λ k. (c.type_inv.packed k).fits) within)
+    (c.loop-strand.invariant bit within)
