@@ -174,7 +174,7 @@ pub AreRunsOf-one : (runs others : List Run) (values : List ℕ) → AreRunsOf r
 AreRunsOf-one runs others values are be = AreRunsOf-is runs values are ∙ sym (AreRunsOf-is others values be)
 
 -- how many runs there are
-length-runs_from : (value times : ℕ) (values : List ℕ) → length (runs_from value times values) ≡ 1 + runs_after value values
+pub length-runs_from : (value times : ℕ) (values : List ℕ) → length (runs_from value times values) ≡ 1 + runs_after value values
 length-runs_from value times [] = refl
 length-runs_from value times (next ∷ values) =
     ⊎_elim (λ same.
