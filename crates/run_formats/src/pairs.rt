@@ -1,14 +1,40 @@
 //! The runs of a block, one after the other.
 
-ghost use Rattle.definitions.specs.Runs.{IsRunsBlock};
+ghost use Rattle.std.specs.Prelude.{ℕ, List};
+ghost use Rattle.std.specs.Iterator.{YieldsFirstBy, item_count};
+ghost use Rattle.definitions.specs.Runs.{AreRunsOf, IsRunsBlock};
+ghost use Rattle.run_formats.specs.Cells.{run_of, runs_left};
+
+use crate::cells::{cells_of, run_count_in, times_of, value_of};
 
 /// Walks the runs of a borrowed block: each value, and how often it stands there.
 #[derive(Clone, Copy)]
 pub struct RunIter<'a> {
-    bytes: &'a [u8],
+    cells: &'a [[u8; 10]],
 }
 
-// RunIter::new(bytes: &'a [u8]) -> RunIter<'a>, which asks that the bytes are a block
-//     requires { (values : List ℕ) × IsRunsBlock values bytes.now }
-//     ensures: the pairs that are left are the block's runs, in order
-// impl Iterator for RunIter<'_> with Item = (u64, u16), whose members say that it yields these pairs in order and then ends
+impl<'a> RunIter<'a> {
+    /// The runs of the block that these bytes spell.
+    pub fn new(bytes: &'a [u8]) -> RunIter<'a>
+        requires { (values : List ℕ) × IsRunsBlock values bytes.now }
+        ensures { (values : List ℕ) → IsRunsBlock values bytes.now → AreRunsOf (runs_left result) values }
+    {
+        RunIter {
+            cells: cells_of(bytes, run_count_in(bytes)),
+        }
+    }
+}
+
+impl<'a> Iterator for RunIter<'a> {
+    type Item = (u64, u16);
+
+    ghost next_gives = { YieldsFirstBy run_of runs_left };
+
+    ghost remaining = { item_count runs_left };
+
+    fn next(&mut self) -> Option<(u64, u16)> {
+        let (cell, rest) = self.cells.split_first()?;
+        self.cells = rest;
+        Some((value_of(cell), times_of(cell)))
+    }
+}
