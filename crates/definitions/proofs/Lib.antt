@@ -4,3 +4,4 @@ pub mod PlainLaws
 pub mod PackedLaws
 pub mod SumLaws
 pub mod WorkedExamples
+pub mod DifferenceLaws
