@@ -6,3 +6,4 @@ pub mod PackedLaws
 pub mod SpellingLaws
 pub mod SumLaws
 pub mod WorkedExamples
+pub mod DifferenceLaws
