@@ -1,9 +1,9 @@
 pub mod BitLaws
 pub mod WordLaws
 pub mod PlainLaws
-pub mod RunLaws
 pub mod PackedLaws
 pub mod SpellingLaws
+pub mod DifferenceLaws
+pub mod RunLaws
 pub mod SumLaws
 pub mod WorkedExamples
-pub mod DifferenceLaws
