@@ -1,7 +1,9 @@
 //! Differences to an earlier value of the block.
 
 ghost use Rattle.definitions.specs.Differences.{first_of, delta1_of, delta16_of};
+ghost use Rattle.definitions.proofs.DifferenceLaws.{delta1_of-full, delta1_of-join, delta16_of-full, delta16_of-join};
 
+use crate::differences::{begin_at_zero, subtract_earlier, sum_strands, sum_up, words_fit};
 use block_core::{Block, Transform};
 
 /// Each value's difference to the one before it, mod 2^64. The base is the first value, whose difference is 0.
@@ -14,7 +16,22 @@ impl<const L: usize> Transform for Delta1<L> {
 
     ghost differences_of = { delta1_of };
 
-    // split, join (one pass in place), allowed (the first difference is 0), laws
+    fn split(full: &Block, into: &mut Block) -> u64 {
+        into.fill();
+        subtract_earlier::<1>(full.as_slice(), into.as_mut_slice())
+    }
+
+    fn join(base: u64, block: &mut Block) {
+        sum_up(base, block.as_mut_slice());
+    }
+
+    fn allowed(_base: u64, differences: &Block) -> bool {
+        let values = differences.as_slice();
+        words_fit(values);
+        begin_at_zero(values)
+    }
+
+    ghost laws = { record { full = delta1_of-full; join = delta1_of-join } };
 }
 
 /// Each value's difference to the one 16 places before it, mod 2^64, and of the first 16 to the first value, which is the
@@ -28,5 +45,20 @@ impl<const L: usize> Transform for Delta16<L> {
 
     ghost differences_of = { delta16_of };
 
-    // split, join (in lanes, rows of 16), allowed (the first difference is 0), laws
+    fn split(full: &Block, into: &mut Block) -> u64 {
+        into.fill();
+        subtract_earlier::<16>(full.as_slice(), into.as_mut_slice())
+    }
+
+    fn join(base: u64, block: &mut Block) {
+        sum_strands::<L>(base, block.as_mut_slice());
+    }
+
+    fn allowed(_base: u64, differences: &Block) -> bool {
+        let values = differences.as_slice();
+        words_fit(values);
+        begin_at_zero(values)
+    }
+
+    ghost laws = { record { full = delta16_of-full; join = delta16_of-join } };
 }

@@ -6,6 +6,7 @@
 
 mod cascades;
 mod deltas;
+mod differences;
 mod references;
 
 pub use cascades::Cascade;

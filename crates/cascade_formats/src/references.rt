@@ -1,7 +1,11 @@
 //! Differences to the least value of the block, a frame of reference.
 
+ghost use Rattle.std.specs.Prelude.{◌≡◌, ℕ, ◌+◌, ◌^◌, ◌<◌, ◌≤◌, ◌↔◌, IsTrue, length, slice_index};
+ghost use Rattle.definitions.specs.Blocks.{block_len};
 ghost use Rattle.definitions.specs.Differences.{least_of, reference_of};
+ghost use Rattle.definitions.proofs.DifferenceLaws.{raised, reference_of-full, reference_of-join};
 
+use crate::differences::{BLOCK_LEN, words_fit};
 use block_core::{Block, Transform};
 
 /// Each value's difference to the block's least value, which is the base.
@@ -14,5 +18,68 @@ impl<const L: usize> Transform for Reference<L> {
 
     ghost differences_of = { reference_of };
 
-    // split, join (in place), allowed (some difference is 0 and no sum with the base wraps), laws
+    fn split(full: &Block, into: &mut Block) -> u64 {
+        into.fill();
+        let values = full.as_slice();
+        let (least, _) = extremes(values);
+        lower(values, least, into.as_mut_slice());
+        least
+    }
+
+    fn join(base: u64, block: &mut Block) {
+        raise(base, block.as_mut_slice());
+    }
+
+    fn allowed(base: u64, differences: &Block) -> bool {
+        let values = differences.as_slice();
+        words_fit(values);
+        values.len() == BLOCK_LEN && can_be_raised(base, values)
+    }
+
+    ghost laws = { record { full = reference_of-full; join = reference_of-join } };
+}
+
+// Whether the least is 0, and the base can be added to each.
+fn can_be_raised(base: u64, differences: &[u64]) -> bool
+    requires { length differences.now ≡ block_len }
+    ensures { IsTrue result ↔ (least_of differences.now ≡ 0) × ((place : ℕ) → place < length differences.now → base + slice_index differences.now place < 2 ^ 64) }
+{
+    let (least, greatest) = extremes(differences);
+    least == 0 && greatest <= u64::MAX - base
+}
+
+// The least and the greatest value, in one pass.
+fn extremes(values: &[u64]) -> (u64, u64)
+    requires { 0 < length values.now }
+    ensures least { result.0 ≡ least_of values.now }
+    ensures greatest { (place : ℕ) → place < length values.now → slice_index values.now place ≤ result.1 }
+    ensures bound { (limit : ℕ) → ((place : ℕ) → place < length values.now → slice_index values.now place ≤ limit) → result.1 ≤ limit }
+{
+    let mut least = values[0];
+    let mut greatest = values[0];
+    for value in values {
+        least = least.min(*value);
+        greatest = greatest.max(*value);
+    }
+    (least, greatest)
+}
+
+// Leaves in `into` the differences to a value that none is below.
+fn lower(values: &[u64], least: u64, into: &mut [u64])
+    requires least { least ≡ least_of values.now }
+    requires room { length into.old ≡ length values.now }
+    ensures { into.new ≡ reference_of values.now }
+{
+    for place in 0..values.len() {
+        into[place] = values[place] - least;
+    }
+}
+
+// Adds the base to each difference.
+fn raise(base: u64, block: &mut [u64])
+    ensures { block.new ≡ raised base block.old }
+{
+    for difference in block.iter_mut() {
+        *difference = difference.wrapping_add(base);
+    }
 }

@@ -6,12 +6,9 @@ use Rattle.std.specs.Simd.Lanes.{zip2}
 use Rattle.std.proofs.lemmas.Bool.{cases_lt}
 use Rattle.std.proofs.lemmas.List.{get_or-append_right, ext_get_or, get_or-replicate, get_or_append_left, get_or-append-add, length-replicate, get_or-map, length-map}
 use Rattle.std.proofs.lemmas.Simd.{get_or-zip2}
-use Rattle.definitions.specs.Columns.{IsWord}
+use Rattle.definitions.specs.Columns.{IsWord, word_bytes}
 use Rattle.definitions.specs.Blocks.{IsFull, block_len}
 use Rattle.definitions.specs.Differences.{difference, first_of, steps_from, delta1_of, delta16_of, least_of, reference_of}
-
-abbrev Words : List ℕ → Type 0
-Words values = AllByRecursion IsWord values
 
 pub words_at : (values : List ℕ) → AllByRecursion IsWord values → (i : ℕ) → get_or values i 0 < 2 ^ 64
 words_at [] small i = omega arith
@@ -21,6 +18,10 @@ words_at (v ∷ values) small (suc i) = words_at values small.1 i
 pub words_from : (values : List ℕ) → ((i : ℕ) → get_or values i 0 < 2 ^ 64) → AllByRecursion IsWord values
 words_from [] small = tt
 words_from (v ∷ values) small = (small 0, words_from values (λ i. small (suc i)))
+
+-- a slice's values are a full block, if they are as many
+pub full_from : (slice values : List ℕ) → slice ≡ values → ((i : ℕ) → get_or slice i 0 < 2 ^ 64) → length values ≡ block_len → IsFull values
+full_from slice values same small whole = record { whole = whole; words = subst (λ l. AllByRecursion IsWord l) same (words_from slice small) }
 
 words_push : (values : List ℕ) (v : ℕ) → AllByRecursion IsWord values → v < 2 ^ 64 → AllByRecursion IsWord (values ++ v ∷ [])
 words_push [] v small here = (here, tt)
@@ -188,13 +189,16 @@ delta16_of-late values i within =
     let place : 16 + i ≡ i + 16 = omega arith in
     subst (λ n. get_or (gapped 16 values) n 0 ≡ difference (get_or values n 0) (get_or values i 0)) place (gapped_late 16 values i (omega arith))
 
+pub length-gapped : (gap : ℕ) (values : List ℕ) → length (gapped gap values) ≡ length values
+length-gapped gap values = length_zip2 difference values (replicate gap (first_of values) ++ values) (omega (arith, length-append (replicate gap (first_of values)) values))
+
 -- a list of such differences, from its places
 pub gapped_is : (gap : ℕ) (values ds : List ℕ) → length ds ≡ length values
     → ((i : ℕ) → i < gap → i < length values → get_or ds i 0 ≡ difference (get_or values i 0) (first_of values))
     → ((i : ℕ) → gap + i < length values → get_or ds (gap + i) 0 ≡ difference (get_or values (gap + i) 0) (get_or values i 0))
     → ds ≡ gapped gap values
 gapped_is gap values ds same early late =
-    let long : length (gapped gap values) ≡ length values = length_zip2 difference values (replicate gap (first_of values) ++ values) (omega (arith, length-append (replicate gap (first_of values)) values)) in
+    let long : length (gapped gap values) ≡ length values = length-gapped gap values in
     ext_get_or 0 ds (gapped gap values) (omega arith) (λ i within.
     elim (cases_lt i gap) [
       | inl before ↦ early i before (omega arith) ∙ sym (gapped_early gap values i before (omega arith))
@@ -301,6 +305,11 @@ least_of-word values is =
 pub reference_of-at : (values : List ℕ) (i : ℕ) → i < length values → get_or (reference_of values) i 0 ≡ get_or values i 0 - least_of values
 reference_of-at values i within = get_or-map (λ value. value - least_of values) values i 0 0 within
 
+pub reference_of-is : (least : ℕ) (values ds : List ℕ) → least ≡ least_of values → length ds ≡ length values → ((i : ℕ) → i < length values → get_or ds i 0 ≡ get_or values i 0 - least) → ds ≡ reference_of values
+reference_of-is least values ds e same each =
+    let long : length (reference_of values) ≡ length values = length-map values (λ value. value - least_of values) in
+    ext_get_or 0 ds (reference_of values) (omega arith) (λ i within. each i (omega arith) ∙ ap (λ m. get_or values i 0 - m) e ∙ sym (reference_of-at values i (omega arith)))
+
 -- the values, from the differences to a base
 abbrev pub raised : ℕ → List ℕ → List ℕ
 raised base ds = map (λ d. wrapped_sum d base) ds
@@ -372,3 +381,16 @@ reference_of-small values i is within =
     let low = least_of-le values i (omega arith) in
     let word = words_at values is.words i in
     omega arith
+
+-- the bytes of a number are bytes
+pub word_bytes-lt : (value i : ℕ) → get_or (word_bytes value) i 0 < 256
+unfolding word_bytes
+word_bytes-lt value zero = omega arith
+word_bytes-lt value (suc zero) = omega arith
+word_bytes-lt value (suc (suc zero)) = omega arith
+word_bytes-lt value (suc (suc (suc zero))) = omega arith
+word_bytes-lt value (suc (suc (suc (suc zero)))) = omega arith
+word_bytes-lt value (suc (suc (suc (suc (suc zero))))) = omega arith
+word_bytes-lt value (suc (suc (suc (suc (suc (suc zero)))))) = omega arith
+word_bytes-lt value (suc (suc (suc (suc (suc (suc (suc zero))))))) = omega arith
+word_bytes-lt value (suc (suc (suc (suc (suc (suc (suc (suc i)))))))) = omega arith

@@ -1,0 +1,106 @@
+//! Differences to a value some places earlier, and the sums that undo them.
+
+ghost use Rattle.std.specs.Prelude.{◌≡◌, ℕ, ◌+◌, ◌*◌, ◌/◌, ◌%◌, ◌^◌, ◌<◌, ◌≤◌, ◌↔◌, ◌∷◌, [], IsTrue, length, replicate, slice_index};
+ghost use Rattle.definitions.specs.Blocks.{block_len, IsFull};
+ghost use Rattle.definitions.specs.Differences.{first_of};
+ghost use Rattle.definitions.proofs.DifferenceLaws.{gapped, sums_of};
+
+use lane_core::Lanes;
+
+/// How many values a block has.
+pub const BLOCK_LEN: usize = 1024;
+
+/// How many strands a packed block has, which is the gap of `Delta16`.
+pub const STRANDS: usize = 16;
+
+/// Leaves in `into` each value's difference to the one `GAP` places earlier, and of the first ones to the first.
+#[inline(always)]
+pub fn subtract_earlier<const GAP: usize>(values: &[u64], into: &mut [u64]) -> u64
+    requires some { 0 < GAP }
+    requires few { GAP ≤ 16 }
+    requires whole { length values.now ≡ block_len }
+    requires room { length into.old ≡ block_len }
+    ensures base { result ≡ first_of values.now }
+    ensures differences { into.new ≡ gapped GAP values.now }
+{
+    words_fit(values);
+    let base = values[0];
+    for place in 0..GAP {
+        into[place] = values[place].wrapping_sub(base);
+    }
+    for place in GAP..BLOCK_LEN {
+        into[place] = values[place].wrapping_sub(values[place - GAP]);
+    }
+    base
+}
+
+/// Turns differences to the value before into the values.
+pub fn sum_up(base: u64, block: &mut [u64])
+    ensures { block.new ≡ sums_of block.old (base ∷ []) }
+{
+    let mut sum = base;
+    for value in block.iter_mut() {
+        sum = value.wrapping_add(sum);
+        *value = sum;
+    }
+}
+
+/// Turns differences to the value 16 places earlier into the values. At a lane width `L` other than 1, 2, 4, 8 and 16 it works
+/// as at 1.
+pub fn sum_strands<const L: usize>(base: u64, block: &mut [u64])
+    requires { length block.old ≡ block_len }
+    ensures { block.new ≡ sums_of block.old (replicate 16 base) }
+{
+    match L {
+        2 => sum_rows::<2>(base, block),
+        4 => sum_rows::<4>(base, block),
+        8 => sum_rows::<8>(base, block),
+        16 => sum_rows::<16>(base, block),
+        _ => sum_rows::<1>(base, block),
+    }
+}
+
+// A group of lanes is at most a row, so what is added to it is done before.
+fn sum_rows<const L: usize>(base: u64, block: &mut [u64])
+    requires few { L ≤ 16 }
+    requires even { 16 / L * L ≡ 16 }
+    requires whole { length block.old ≡ block_len }
+    ensures { block.new ≡ sums_of block.old (replicate 16 base) }
+{
+    for place in 0..STRANDS {
+        block[place] = block[place].wrapping_add(base);
+    }
+    for group in 0..63 * (STRANDS / L) {
+        add_earlier::<L>(block, group * L);
+    }
+}
+
+// Adds to the lanes that stand 16 places after the first one the lanes from the first one on.
+#[inline(always)]
+fn add_earlier<const L: usize>(block: &mut [u64], first: usize)
+    requires few { L ≤ 16 }
+    requires inside { first + 16 + L ≤ length block.old }
+    requires short { length block.old ≤ block_len }
+    ensures added { (lane : ℕ) → lane < L → slice_index block.new (first + 16 + lane) ≡ (slice_index block.old (first + 16 + lane) + slice_index block.old (first + lane)) % 2 ^ 64 }
+    ensures below { (place : ℕ) → place < first + 16 → slice_index block.new place ≡ slice_index block.old place }
+    ensures above { (place : ℕ) → first + 16 + L ≤ place → slice_index block.new place ≡ slice_index block.old place }
+    ensures kept { length block.new ≡ length block.old }
+{
+    let earlier = Lanes::<L>::load(&block[first..first + L]);
+    let here = Lanes::<L>::load(&block[first + STRANDS..first + STRANDS + L]);
+    here.add(earlier)
+        .store(&mut block[first + STRANDS..first + STRANDS + L]);
+}
+
+/// Whether these are a block's worth and the first is 0.
+pub fn begin_at_zero(differences: &[u64]) -> bool
+    ensures { IsTrue result ↔ (length differences.now ≡ block_len) × (slice_index differences.now 0 ≡ 0) }
+{
+    differences.len() == BLOCK_LEN && differences[0] == 0
+}
+
+/// That a word is below 2^64 follows from the type of a slice. A call tells it to the proof, and costs nothing.
+#[inline(always)]
+pub fn words_fit(words: &[u64])
+    ensures { (place : ℕ) → slice_index words.now place < 2 ^ 64 }
+{}
