@@ -2,9 +2,9 @@
 use Rattle.std.proofs.Common.{◌≡◌, ◌≢◌, ℕ, zero, suc, ◌+◌, ◌*◌, ◌^◌, ◌<◌, ◌≤◌, Bool, List, [], ◌∷◌, ◌++◌, length, get_or, flat_map, replicate, if◌then◌else◌, refl, sym, ap, ◌∙◌, subst, ⊎_elim, arith, length-append, append_assoc}
 use Rattle.std.specs.Prelude.{slice_index, ◌==◌}
 use Rattle.std.specs.List.{AllByRecursion}
-use Rattle.std.specs.Int.{to_le_bytes, from_le_bytes, w16, w64}
-use Rattle.std.proofs.lemmas.Bool.{cases_eq, cases_lt, eq-eqb, ne_eqb}
-use Rattle.std.proofs.lemmas.List.{length-replicate, get_or_append_left, get_or-append_right, get_or_past}
+use Rattle.std.specs.Int.{from_le_bytes, w16, w64}
+use Rattle.std.proofs.lemmas.Bool.{cases_eq, eq-eqb, ne_eqb}
+use Rattle.std.proofs.lemmas.List.{length-replicate}
 use Rattle.std.proofs.lemmas.Nat.{le_bytes_2, from_le_bytes-to_le_bytes_2}
 use Rattle.definitions.specs.Blocks.{IsFull}
 use Rattle.definitions.specs.Columns.{IsWord, word_bytes}
@@ -33,9 +33,9 @@ pub record AreOctets (bytes : List ℕ) : Type 0 where
 AreOctets-cons : (byte : ℕ) (bytes : List ℕ) → byte < 256 → AreOctets bytes → AreOctets (byte ∷ bytes)
 AreOctets-cons byte bytes first rest = record { below = λ k. at k }
   where
-  at : (k : ℕ) → slice_index (byte ∷ bytes) k < 256
-  at zero = first
-  at (suc k) = rest.below k
+    at : (k : ℕ) → slice_index (byte ∷ bytes) k < 256
+    at zero = first
+    at (suc k) = rest.below k
 
 AreOctets-nil : AreOctets []
 AreOctets-nil = record { below = λ k. omega arith }
@@ -146,25 +146,25 @@ runs_from-run_values [] value times some differ = refl
 runs_from-run_values (run ∷ runs) value times some differ =
     by run.times refl some.0 (runs_from-run_values runs run.value run.times some.1 differ.1)
   where
-  by : (n : ℕ) → run.times ≡ n → 0 < n → runs_from run.value run.times (run_values runs) ≡ run ∷ runs → runs_from value times (run_values (run ∷ runs)) ≡ record { value = value; times = times } ∷ (run ∷ runs)
-  by zero is none rest = absurd (omega arith)
-  by (suc more) is _ rest =
-      ap (λ (n : ℕ). runs_from value times (replicate n run.value ++ run_values runs)) is
-      ∙ runs_from-other value times run.value (replicate more run.value ++ run_values runs) (λ same. differ.0 (sym same))
-      ∙ ap (λ (rest : List Run). record { value = value; times = times } ∷ rest)
-      (runs_from-replicate more run.value 1 (run_values runs) ∙ ap (λ (n : ℕ). runs_from run.value n (run_values runs)) (omega arith ∙ sym is)
-      ∙ rest)
+    by : (n : ℕ) → run.times ≡ n → 0 < n → runs_from run.value run.times (run_values runs) ≡ run ∷ runs → runs_from value times (run_values (run ∷ runs)) ≡ record { value = value; times = times } ∷ (run ∷ runs)
+    by zero is none rest = absurd (omega arith)
+    by (suc more) is _ rest =
+        ap (λ (n : ℕ). runs_from value times (replicate n run.value ++ run_values runs)) is
+        ∙ runs_from-other value times run.value (replicate more run.value ++ run_values runs) (λ same. differ.0 (sym same))
+        ∙ ap (λ (rest : List Run). record { value = value; times = times } ∷ rest)
+        (runs_from-replicate more run.value 1 (run_values runs) ∙ ap (λ (n : ℕ). runs_from run.value n (run_values runs)) (omega arith ∙ sym is)
+        ∙ rest)
 
 pub runs_of-run_values : (runs : List Run) → AllByRecursion (λ run. 0 < run.times) runs → NeighboursDiffer runs → runs_of (run_values runs) ≡ runs
 runs_of-run_values [] some differ = refl
 runs_of-run_values (run ∷ runs) some differ = by run.times refl some.0
   where
-  by : (n : ℕ) → run.times ≡ n → 0 < n → runs_of (run_values (run ∷ runs)) ≡ run ∷ runs
-  by zero is none = absurd (omega arith)
-  by (suc more) is _ =
-      ap (λ (n : ℕ). runs_of (replicate n run.value ++ run_values runs)) is
-      ∙ runs_from-replicate more run.value 1 (run_values runs) ∙ ap (λ (n : ℕ). runs_from run.value n (run_values runs)) (omega arith ∙ sym is)
-      ∙ runs_from-run_values runs run.value run.times some.1 differ
+    by : (n : ℕ) → run.times ≡ n → 0 < n → runs_of (run_values (run ∷ runs)) ≡ run ∷ runs
+    by zero is none = absurd (omega arith)
+    by (suc more) is _ =
+        ap (λ (n : ℕ). runs_of (replicate n run.value ++ run_values runs)) is
+        ∙ runs_from-replicate more run.value 1 (run_values runs) ∙ ap (λ (n : ℕ). runs_from run.value n (run_values runs)) (omega arith ∙ sym is)
+        ∙ runs_from-run_values runs run.value run.times some.1 differ
 
 pub AreRunsOf-is : (runs : List Run) (values : List ℕ) → AreRunsOf runs values → runs ≡ runs_of values
 AreRunsOf-is runs values are = sym (runs_of-run_values runs are.nonempty are.maximal) ∙ ap runs_of are.cover
@@ -239,9 +239,10 @@ runs_fit : (runs : List Run) → AllByRecursion (λ run. 0 < run.times) runs →
 runs_fit [] some words short = tt
 runs_fit (run ∷ runs) some words short =
     let long : length (run_values (run ∷ runs)) ≡ run.times + length (run_values runs) =
-    length-append (replicate run.times run.value) (run_values runs) ∙ ap (λ (n : ℕ). n + length (run_values runs)) (length-replicate run.times run.value) in
-    (record { value = word_of run.times run.value (run_values runs) some.0 words; times = omega arith },
-    runs_fit runs some.1 (words_after run.times run.value (run_values runs) words) (omega arith))
+    length-append (replicate run.times run.value) (run_values runs) ∙ ap (λ (n : ℕ). n + length (run_values runs)) (length-replicate run.times run.value) in (
+      record { value = word_of run.times run.value (run_values runs) some.0 words; times = omega arith },
+      runs_fit runs some.1 (words_after run.times run.value (run_values runs) words) (omega arith),
+    )
 
 -- each run of a full block is within it
 pub AreRunsOf-fit : (runs : List Run) (values : List ℕ) → AreRunsOf runs values → IsFull values → AllByRecursion RunFits runs
