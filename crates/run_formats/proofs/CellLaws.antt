@@ -5,11 +5,11 @@ use Rattle.std.specs.List.{AllByRecursion}
 use Rattle.std.specs.Simd.{first_chunks}
 use Rattle.std.proofs.Math.Seq.{take-add}
 use Rattle.std.proofs.lemmas.List.{length-take, length-drop, length-replicate, get_or-take, get_or-drop, get_or_past, take-append-drop, take_at, drop_at, append-nil}
-use Rattle.definitions.specs.Blocks.{block_len, IsFull}
+use Rattle.definitions.specs.Blocks.{block_len}
 use Rattle.definitions.specs.Columns.{IsWord, word_bytes}
 use Rattle.definitions.specs.Runs.{Run, run_values, NeighboursDiffer, AreRunsOf, two_bytes, run_bytes, run_count, IsRunsBlock}
 use Rattle.definitions.proofs.WordLaws.{length-word_bytes, from_le_bytes-word_bytes, word_bytes-from_le_bytes}
-use Rattle.definitions.proofs.RunLaws.{AreOctets, RunFits, IsRunCount, length-two_bytes, from_le_bytes-two_bytes, two_bytes-from_le_bytes, length-run_bytes, length-runs_bytes, AreRunsOf-count, AreRunsOf-fit, IsFull-run_count, IsRunsBlock-length}
+use Rattle.definitions.proofs.RunLaws.{AreOctets, RunFits, IsRunCount, length-two_bytes, from_le_bytes-two_bytes, two_bytes-from_le_bytes, length-run_bytes, AreRunsOf-count, AreRunsOf-fit, IsFull-run_count, IsRunsBlock-length}
 use Rattle.run_formats.specs.Cells.{count_in, value_in, times_in, run_in, cells_in, Passes, BeginsWithRuns}
 
 AreOctets-take : (n : ℕ) (bytes : List ℕ) → AreOctets bytes → AreOctets (take n bytes)
@@ -99,9 +99,12 @@ length-run_values run runs =
 Passes-from : (before : Option ℕ) (left : ℕ) (runs : List Run) → AllByRecursion (λ run. 0 < run.times) runs → NeighboursDiffer runs → Follows before runs → length (run_values runs) ≡ left → Passes before left runs
 Passes-from before left [] some differ follows long = sym long
 Passes-from before left (run ∷ runs) some differ follows long =
-    let size : run.times + length (run_values runs) ≡ left = sym (length-run_values run runs) ∙ long in
-    (some.0, omega arith, follows,
-    Passes-from (Some run.value) (left - run.times) runs some.1 (NeighboursDiffer-next run runs differ) (Follows-next run runs differ) (omega arith))
+    let size : run.times + length (run_values runs) ≡ left = sym (length-run_values run runs) ∙ long in (
+      some.0,
+      omega arith,
+      follows,
+      Passes-from (Some run.value) (left - run.times) runs some.1 (NeighboursDiffer-next run runs differ) (Follows-next run runs differ) (omega arith),
+    )
 
 -- what runs are that pass
 pub record Passed (before : Option ℕ) (left : ℕ) (runs : List Run) : Type 0 where
@@ -206,9 +209,9 @@ begins_with_block values spelling rest bytes is e =
       passes = Passes-from None block_len runs front.are.nonempty front.are.maximal (Follows-none runs) (ap length front.are.cover ∙ is.full.whole);
     }
   where
-  Follows-none : (runs : List Run) → Follows None runs
-  Follows-none [] = tt
-  Follows-none (run ∷ runs) = λ same. cc
+    Follows-none : (runs : List Run) → Follows None runs
+    Follows-none [] = tt
+    Follows-none (run ∷ runs) = λ same. cc
 
 -- the runs of a block
 pub block_runs : (values bytes : List ℕ) → IsRunsBlock values bytes → FrontRuns values bytes

@@ -1,10 +1,10 @@
 -- What the writes of values and of cells leave.
-use Rattle.std.proofs.Common.{◌≡◌, ℕ, suc, ◌+◌, ◌-◌, ◌*◌, ◌<◌, ◌≤◌, List, [], ◌∷◌, ◌++◌, length, map, take, drop, get_or, flat_map, replicate, refl, sym, ap, ap₂, ◌∙◌, subst, arith, add-one, length-append, append_assoc}
+use Rattle.std.proofs.Common.{◌≡◌, ℕ, ◌+◌, ◌-◌, ◌*◌, ◌<◌, ◌≤◌, List, [], ◌∷◌, ◌++◌, length, map, take, drop, get_or, flat_map, replicate, refl, sym, ap, ap₂, ◌∙◌, subst, arith, add-one, length-append, append_assoc}
 use borrow.Rule.Slice.PartMut.{put_mid}
 use Rattle.std.proofs.lemmas.List.{length-take, length-drop, length-replicate, take_at, drop_all, at_drop_more, append-nil}
 use Rattle.std.proofs.lemmas.Slice.{take-put_mid}
 use Rattle.definitions.specs.Runs.{Run, run_values, run_bytes}
-use Rattle.definitions.proofs.RunLaws.{length-run_bytes, length-runs_bytes, runs_from, runs_of, runs_from-same, runs_from-other, length-runs_from}
+use Rattle.definitions.proofs.RunLaws.{length-run_bytes, length-runs_bytes, runs_from, runs_from-same, runs_from-other, length-runs_from}
 use Rattle.run_formats.specs.Cells.{value_in, times_in, run_in}
 
 -- a front and a rest that are written one after the other
@@ -18,8 +18,14 @@ both_parts n into front back long =
 
 length-put_mid : (place count : ℕ) (into part : List ℕ) → place + count ≤ length into → length part ≡ count → length (put_mid place count into part) ≡ length into
 length-put_mid place count into part within long =
-    omega (arith, length-append (take place into) (part ++ drop count (drop place into)), length-append part (drop count (drop place into)), length-take place into,
-    length-drop count (drop place into), length-drop place into)
+    omega (
+      arith,
+      length-append (take place into) (part ++ drop count (drop place into)),
+      length-append part (drop count (drop place into)),
+      length-take place into,
+      length-drop count (drop place into),
+      length-drop place into,
+    )
 
 -- a part is written behind what was written before
 written : (place count end : ℕ) (into part rest all : List ℕ) → end ≡ place + count → end ≤ length into → length part ≡ count → take place into ++ (part ++ rest) ≡ all →
@@ -27,9 +33,10 @@ written : (place count end : ℕ) (into part rest all : List ℕ) → end ≡ pl
 written place count end into part rest all is within long e =
     let size : end - place ≡ count = omega arith in
     let kept : length (put_mid place (end - place) into part) ≡ length into =
-    ap (λ (n : ℕ). length (put_mid place n into part)) size ∙ length-put_mid place count into part (omega arith) long in
-    (omega arith,
-    ap (λ (xs : List ℕ). xs ++ rest) (take-put_mid place (end - place) into part end (omega arith) (omega arith)) ∙ append_assoc (take place into) part rest ∙ e)
+    ap (λ (n : ℕ). length (put_mid place n into part)) size ∙ length-put_mid place count into part (omega arith) long in (
+      omega arith,
+      ap (λ (xs : List ℕ). xs ++ rest) (take-put_mid place (end - place) into part end (omega arith) (omega arith)) ∙ append_assoc (take place into) part rest ∙ e,
+    )
 
 -- the values of one more run are written
 pub values_more : (cells : List (List ℕ)) (i place times value : ℕ) (into part : List ℕ) → i < length cells → place ≤ length into → length into ≡ length (run_values (map run_in cells))

@@ -31,6 +31,10 @@ pub put_run-requires-2 : goal.put_run-requires-2
 put_run-requires-2 c =
     let all = flat_map run_bytes (runs_of c.args.values.now) in
     let whole : length c.loop-next.into ≡ length all = c.loop-next.auto.into ∙ c.requires.size ∙ sym (length-runs_bytes (runs_of c.args.values.now)) in
-    omega (arith, length-take (length c.loop-next.into - c.loop-next.place) (drop c.loop-next.place c.loop-next.into), length-drop c.loop-next.place c.loop-next.into,
-    room_for_last c.loop-next.next-index c.loop-next.place c.loop-next.value c.loop-next.times c.loop-next.into all c.args.values.now c.loop-next-test.false c.loop-next.invariant.1 whole
-    c.loop-next.invariant.2)
+    omega (
+      arith,
+      length-take (length c.loop-next.into - c.loop-next.place) (drop c.loop-next.place c.loop-next.into),
+      length-drop c.loop-next.place c.loop-next.into,
+      room_for_last c.loop-next.next-index c.loop-next.place c.loop-next.value c.loop-next.times c.loop-next.into all c.args.values.now c.loop-next-test.false c.loop-next.invariant.1 whole
+          c.loop-next.invariant.2,
+    )

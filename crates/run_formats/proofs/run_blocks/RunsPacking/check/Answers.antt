@@ -1,4 +1,4 @@
-use Rattle.std.proofs.Common.{◌≡◌, ◌+◌, ◌*◌, List, ℕ, map, take, sym, ap, ◌∙◌, subst, arith}
+use Rattle.std.proofs.Common.{◌≡◌, ◌+◌, ◌*◌, map, take, sym, ap, ◌∙◌, subst, arith}
 use Rattle.definitions.specs.Runs.{run_values, IsRunsBlock}
 use Rattle.definitions.proofs.RunLaws.{AreOctets}
 use Rattle.run_formats.specs.Cells.{count_in, run_in, cells_in, BeginsWithRuns}

@@ -1,7 +1,7 @@
-use Rattle.std.proofs.Common.{◌≡◌, ◌+◌, ◌-◌, ◌*◌, ◌++◌, ℕ, List, length, take, drop, flat_map, sym, ap, ap₂, ◌∙◌, subst, arith, length-append}
+use Rattle.std.proofs.Common.{◌≡◌, ◌-◌, ◌++◌, length, drop, flat_map, sym, ap, ap₂, ◌∙◌, subst, arith, length-append}
 use Rattle.std.proofs.lemmas.List.{length-take, length-drop}
 use Rattle.definitions.specs.Runs.{two_bytes, run_bytes, run_count, IsRunsBlock}
-use Rattle.definitions.proofs.RunLaws.{runs_of, runs_spelling, length-two_bytes, length-runs_of, IsRunsBlock-length, IsRunsBlock-spelling}
+use Rattle.definitions.proofs.RunLaws.{runs_of, length-two_bytes, length-runs_of, IsRunsBlock-length, IsRunsBlock-spelling}
 use Rattle.run_formats.proofs.Writes.{both_parts}
 use Rattle.run_formats.proofs.run_blocks.RunsPacking.encode.Goals as goal
 
@@ -28,8 +28,17 @@ pub put_runs-requires-clause-size : goal.put_runs-requires-clause-size
 put_runs-requires-clause-size c =
     let all = c.put_count.new.into ++ drop 2 c.args.into.now in
     let runs : length (runs_of c.as_slice.result.now) ≡ run_count c.args.full.now = ap (λ values. length (runs_of values)) c.as_slice.ensures.values ∙ length-runs_of c.args.full.now in
-    omega (arith, IsRunsBlock-length c.args.full.now c.requires.spelled.0 c.requires.spelled.1, c.requires.spelled.2, ap length c.put_count.ensures, length-two_bytes c.args.runs,
-    length-append c.put_count.new.into (drop 2 c.args.into.now), length-drop 2 c.args.into.now, length-take (length all - 2) (drop 2 all), length-drop 2 all)
+    omega (
+      arith,
+      IsRunsBlock-length c.args.full.now c.requires.spelled.0 c.requires.spelled.1,
+      c.requires.spelled.2,
+      ap length c.put_count.ensures,
+      length-two_bytes c.args.runs,
+      length-append c.put_count.new.into (drop 2 c.args.into.now),
+      length-drop 2 c.args.into.now,
+      length-take (length all - 2) (drop 2 all),
+      length-drop 2 all,
+    )
 
 pub returns : goal.returns
 returns c =
