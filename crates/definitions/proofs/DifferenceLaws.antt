@@ -350,12 +350,12 @@ raised_is base ds place is at small =
     let values = raised base ds in
     let long : length values ≡ length ds = length-map ds (λ d. wrapped_sum d base) in
     let each : (i : ℕ) → i < length ds → get_or values i 0 ≡ base + get_or ds i 0 = λ i within.
-        let below = small i within in
-        let sum : wrapped_sum (get_or ds i 0) base ≡ base + get_or ds i 0 = omega arith in
-        get_or-map (λ d. wrapped_sum d base) ds i 0 0 within ∙ sum in
+    let below = small i within in
+    let sum : wrapped_sum (get_or ds i 0) base ≡ base + get_or ds i 0 = omega arith in
+    get_or-map (λ d. wrapped_sum d base) ds i 0 0 within ∙ sum in
     let base_is : base ≡ least_of values = least_of-is values base place
-        (record { within = omega (arith, at.within); is = let e = each place at.within in omega (arith, at.is) })
-        (λ i within. let e = each i (omega arith) in omega arith) in
+    (record { within = omega (arith, at.within); is = let e = each place at.within in omega (arith, at.is) })
+    (λ i within. let e = each i (omega arith) in omega arith) in
     record {
       full = record { whole = long ∙ is.whole; words = words_map (λ d. wrapped_sum d base) ds (λ i within. omega arith) };
       base_is = base_is;
