@@ -1,7 +1,7 @@
 -- What an encoding leaves in bytes.
 use Rattle.std.proofs.Common.{◌≡◌, ℕ, ◌+◌, ◌-◌, ◌≤◌, List, [], ◌++◌, take, drop, length, sym, ap, ap₂, ◌∙◌, arith, length-append}
 use borrow.Rule.Slice.PartMut.{post_of}
-use Rattle.std.proofs.lemmas.List.{take_at, drop_all, append-nil}
+use Rattle.std.proofs.lemmas.List.{take_at, drop_all, append-nil, length-drop}
 use Rattle.definitions.specs.Columns.{word_bytes}
 use Rattle.definitions.specs.Spellings.{IsCascade}
 use Rattle.definitions.proofs.WordLaws.{length-word_bytes}
@@ -15,5 +15,5 @@ cascade_long base_of differences_of spells values bytes into is same =
 pub written_after : (whole word inner rest : List ℕ) → length word ≡ 8 → whole ≡ word ++ rest → take 8 whole ++ (inner ++ post_of 8 (length whole - 8) whole) ≡ word ++ inner
 written_after whole word inner rest eight e =
     let long : length whole ≡ length word + length rest = ap length e ∙ length-append word rest in
-    let none : drop (8 + (length whole - 8)) whole ≡ [] = drop_all (8 + (length whole - 8)) whole (omega arith) in
+    let none : drop (length whole - 8) (drop 8 whole) ≡ [] = drop_all (length whole - 8) (drop 8 whole) (omega (arith, length-drop 8 whole)) in
     ap₂ (λ a b. a ++ (inner ++ b)) (ap (take 8) e ∙ take_at word rest 8 eight) none ∙ ap (λ l. word ++ l) (append-nil inner)

@@ -19,12 +19,14 @@ decode-requires g c =
 pub join-requires : goal.join-requires
 join-requires g c =
     let is = c.requires in
-    let inner = inner_of g.T.Transform.base_of g.T.Transform.differences_of g.P.Packing.spells g.P.Packing.block_head c.args.param c.args.head.0 c.args.head.1 is.values c.args.bytes.now is.spelled (ap (λ h. h.0) is.headed) (ap (λ h. h.1) is.headed) in
-    (is.values, record {
-      full = is.spelled.full;
-      base_is = ap (λ h. h.0) is.headed;
-      differences_are = same_block g.P.Packing.spells g.P.Packing.block_head c.args.param c.decode.new.into (g.T.Transform.differences_of is.values) c.rest_of.result.now is.spelled.inner g.met.P.Packing.laws c.decode.ensures is.spelled.differences (c.rest_of.ensures ∙ inner.rest_is);
-    })
+    let inner = inner_of g.T.Transform.base_of g.T.Transform.differences_of g.P.Packing.spells g.P.Packing.block_head c.args.param c.args.head.0 c.args.head.1 is.values c.args.bytes.now is.spelled (ap (λ h. h.0) is.headed) (ap (λ h. h.1) is.headed) in (
+      is.values,
+      record {
+        full = is.spelled.full;
+        base_is = ap (λ h. h.0) is.headed;
+        differences_are = same_block g.P.Packing.spells g.P.Packing.block_head c.args.param c.decode.new.into (g.T.Transform.differences_of is.values) c.rest_of.result.now is.spelled.inner g.met.P.Packing.laws c.decode.ensures is.spelled.differences (c.rest_of.ensures ∙ inner.rest_is);
+      },
+    )
 
 pub returns : goal.returns
 returns g c =

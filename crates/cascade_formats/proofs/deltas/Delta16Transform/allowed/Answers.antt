@@ -5,12 +5,13 @@ use Rattle.cascade_formats.proofs.deltas.Delta16Transform.allowed.Goals as goal
 
 pub returns : goal.returns
 returns g c =
-    let same = c.as_slice-values.ensures.values in
-    (λ t.
-    let begins = c.begin_at_zero.ensures.0 t in
-    delta16_split c.args._base c.args.differences.now c.ranges._base.fits
-    (full_from c.as_slice-values.result.now c.args.differences.now same c.words_fit.ensures (sym (ap length same) ∙ begins.0))
-    (sym (ap (λ l. get_or l 0 0) same) ∙ begins.1),
-    λ s.
-    let begins = delta16_begins c.args._base s.0 c.args.differences.now s.1 in
-    c.begin_at_zero.ensures.1 (ap length same ∙ begins.0, ap (λ l. get_or l 0 0) same ∙ begins.1))
+    let same = c.as_slice-values.ensures.values in (
+      λ t.
+          let begins = c.begin_at_zero.ensures.0 t in
+          delta16_split c.args._base c.args.differences.now c.ranges._base.fits
+          (full_from c.as_slice-values.result.now c.args.differences.now same c.words_fit.ensures (sym (ap length same) ∙ begins.0))
+          (sym (ap (λ l. get_or l 0 0) same) ∙ begins.1),
+      λ s.
+          let begins = delta16_begins c.args._base s.0 c.args.differences.now s.1 in
+          c.begin_at_zero.ensures.1 (ap length same ∙ begins.0, ap (λ l. get_or l 0 0) same ∙ begins.1),
+    )
