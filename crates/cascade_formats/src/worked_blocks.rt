@@ -64,7 +64,7 @@ fn goes_round<T: Transform<Base = u64>>(rt: &impl Abort, full: &Block, case: &st
     );
 }
 
-// Each kind of block, of which 2^64 - 1 stands beside 0 in the wrapping and the alternating one.
+// Each kind of block. In the wrapping one 0 follows 2^64 - 1; the alternating one goes between 2^64 - 1 and 2^63 - 1.
 fn all_go_round<T: Transform<Base = u64>>(rt: &impl Abort) {
     goes_round::<T>(rt, &rising(7, 0), "constant");
     goes_round::<T>(rt, &rising(5, 1), "rising");
