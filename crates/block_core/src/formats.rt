@@ -1,6 +1,6 @@
 //! The names and tags of the formats.
 
-ghost use Rattle.std.specs.Prelude.{◌≡◌};
+ghost use Rattle.std.specs.Prelude.{◌≡◌, ◌≢◌, MatchOption};
 ghost use Rattle.block_core.specs.Formats.{tag_of, name_of};
 
 /// How the blocks of a column are spelled, in the order of the tags in column files.
@@ -38,6 +38,23 @@ impl Format {
             Format::Delta16Dynamic => 5,
             Format::ReferenceDynamic => 6,
             Format::Delta1Runs => 7,
+        }
+    }
+
+    /// The format that has the tag, where one has it.
+    pub fn from_tag(tag: u8) -> Option<Format>
+        ensures { MatchOption result ((format : Format) → tag_of format ≢ tag) (λ format. tag_of format ≡ tag) }
+    {
+        match tag {
+            0 => Some(Format::Plain),
+            1 => Some(Format::Static),
+            2 => Some(Format::Dynamic),
+            3 => Some(Format::Runs),
+            4 => Some(Format::Delta1Dynamic),
+            5 => Some(Format::Delta16Dynamic),
+            6 => Some(Format::ReferenceDynamic),
+            7 => Some(Format::Delta1Runs),
+            _ => None,
         }
     }
 
@@ -84,8 +101,11 @@ mod tests {
             (Format::Delta1Runs, 7, "delta1+runs"),
         ] {
             assert_eq!(rt; format.tag(), tag, "{name}");
+            assert_eq!(rt; Format::from_tag(tag), Some(format), "{name}");
             assert_eq!(rt; format.name(), name);
         }
+        assert_eq!(rt; Format::from_tag(8), None);
+        assert_eq!(rt; Format::from_tag(255), None);
         Ok(())
     }
 

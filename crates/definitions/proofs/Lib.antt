@@ -5,5 +5,8 @@ pub mod PackedLaws
 pub mod SpellingLaws
 pub mod DifferenceLaws
 pub mod RunLaws
+pub mod BlockLaws
+pub mod ColumnFileLaws
+pub mod PieceLaws
 pub mod SumLaws
 pub mod WorkedExamples

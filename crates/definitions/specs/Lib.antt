@@ -15,3 +15,4 @@ pub mod Steps
 pub mod Spellings
 pub mod Differences
 pub mod Runs
+pub mod ColumnFiles

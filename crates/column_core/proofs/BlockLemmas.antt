@@ -1,0 +1,36 @@
+-- What a block's spelling begins with, and how long it is.
+use Rattle.std.proofs.Common.{◌≡◌, ℕ, ◌+◌, ◌-◌, ◌*◌, ◌^◌, ◌<◌, ◌≤◌, List, [], ◌∷◌, ◌++◌, length, take, drop, get_or, refl, sym, ap, ◌∙◌, arith, length-append}
+use Rattle.std.specs.Prelude.{slice_index}
+use Rattle.std.specs.Int.{from_le_bytes, w16, w64}
+use Rattle.std.proofs.lemmas.List.{take_at, drop_at, get_or-append_right}
+use Rattle.definitions.specs.Columns.{word_bytes}
+use Rattle.definitions.specs.Spellings.{width_of, IsDynamicBlock, IsCascade}
+use Rattle.definitions.specs.Runs.{run_count, IsRunsBlock}
+use Rattle.definitions.specs.ColumnFiles.{Format, BlockOf}
+use Rattle.definitions.proofs.WordLaws.{length-word_bytes}
+use Rattle.definitions.proofs.SpellingLaws.{IsDynamicBlock-size}
+use Rattle.definitions.proofs.RunLaws.{IsRunsBlock-length}
+use Rattle.definitions.proofs.BlockLaws.{BlockOf-short, IsDynamicBlock-head, IsRunsBlock-head, IsCascade-base}
+
+-- a spelling is short
+pub sized : (format : Format) (width : ℕ) (values : List ℕ) → (bytes : List ℕ) × BlockOf format width values bytes → (bytes : List ℕ) × (length bytes < 2 ^ 32) × BlockOf format width values bytes
+sized format width values s = (s.0, omega (arith, BlockOf-short format width values s.0 s.1), s.1)
+
+-- what stands behind the base of a cascade
+pub record Inside (base_of : List ℕ → ℕ) (differences_of : List ℕ → List ℕ) (values bytes inner : List ℕ) : Type 0 where
+  pub base : from_le_bytes w64 (take 8 bytes) ≡ base_of values
+  pub rest : drop 8 bytes ≡ inner
+  pub size : length bytes ≡ 8 + length inner
+  pub cell : (i : ℕ) → get_or bytes (8 + i) 0 ≡ get_or inner i 0
+
+pub inside : (base_of : List ℕ → ℕ) (differences_of : List ℕ → List ℕ) (spells : List ℕ → List ℕ → Type 0) (values bytes : List ℕ)
+    → (is : IsCascade base_of differences_of spells values bytes) → Inside base_of differences_of values bytes is.inner
+inside base_of differences_of spells values bytes is =
+    let word = word_bytes (base_of values) in
+    let long : length word ≡ 8 = length-word_bytes (base_of values) in
+    record {
+      base = IsCascade-base base_of differences_of spells values bytes is;
+      rest = ap (drop 8) is.spelled ∙ drop_at word is.inner 8 long;
+      size = omega (arith, ap length is.spelled, length-append word is.inner, long);
+      cell = λ i. ap (λ l. get_or l (8 + i) 0) is.spelled ∙ get_or-append_right word is.inner 8 (8 + i) 0 long (omega arith) ∙ (let e : 8 + i - 8 ≡ i = omega arith in ap (λ n. get_or is.inner n 0) e);
+    }

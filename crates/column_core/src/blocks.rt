@@ -1,0 +1,154 @@
+//! One block in any format. The packing of each format is chosen here and nowhere else.
+
+ghost use Rattle.std.specs.Prelude.{◌≡◌, ◌+◌, ◌<◌, ◌++◌, ◌^◌, ℕ, List, length, take, OnOk, OnErr, MatchOption};
+ghost use Rattle.definitions.specs.Blocks.{block_len};
+ghost use Rattle.definitions.specs.ColumnFiles.{BlockOf, IsColumnWidth, LacksBlock, BeginsWith, BeginsWithBlock};
+ghost use Rattle.block_core.specs.Formats.{format_of};
+ghost use Rattle.block_core.specs.Laws.{NoBlock};
+
+use crate::spellings::{decode_delta_dynamic, decode_delta_runs, decode_dynamic, decode_runs};
+use block_core::{Block, Format, Packing};
+use block_formats::{Dynamic, Static, Words};
+use cascade_formats::{Cascade, Delta1, Delta16, Reference};
+use run_formats::Runs;
+use std::alloc::AllocError;
+
+/// How long the block of the format is that the bytes begin with, where they begin with one. Each byte of it is read once.
+pub fn check_block(format: Format, static_width: u8, bytes: &[u8]) -> Option<usize>
+    requires { IsColumnWidth (format_of format) static_width }
+    ensures { MatchOption result (LacksBlock (format_of format) static_width bytes.now)
+        (λ count. BeginsWithBlock (format_of format) static_width bytes.now count) }
+{
+    match format {
+        Format::Plain => found::<Words>((), bytes),
+        Format::Static => found::<Static<8>>(static_width, bytes),
+        Format::Dynamic => found::<Dynamic<8>>((), bytes),
+        Format::Runs => found::<Runs>((), bytes),
+        Format::Delta1Dynamic => found::<Cascade<Delta1<8>, Dynamic<8>>>((), bytes),
+        Format::Delta16Dynamic => found::<Cascade<Delta16<8>, Dynamic<8>>>((), bytes),
+        Format::ReferenceDynamic => found::<Cascade<Reference<8>, Dynamic<8>>>((), bytes),
+        Format::Delta1Runs => found::<Cascade<Delta1<8>, Runs>>((), bytes),
+    }
+}
+
+/// How long the spelling of a block is.
+pub fn block_len(format: Format, static_width: u8, full: &Block) -> usize
+    requires { (bytes : List ℕ) × BlockOf (format_of format) static_width full.now bytes }
+    ensures { (bytes : List ℕ) → BlockOf (format_of format) static_width full.now bytes → result ≡ length bytes }
+{
+    match format {
+        Format::Plain => spelled_len::<Words>((), full),
+        Format::Static => spelled_len::<Static<8>>(static_width, full),
+        Format::Dynamic => spelled_len::<Dynamic<8>>((), full),
+        Format::Runs => spelled_len::<Runs>((), full),
+        Format::Delta1Dynamic => spelled_len::<Cascade<Delta1<8>, Dynamic<8>>>((), full),
+        Format::Delta16Dynamic => spelled_len::<Cascade<Delta16<8>, Dynamic<8>>>((), full),
+        Format::ReferenceDynamic => spelled_len::<Cascade<Reference<8>, Dynamic<8>>>((), full),
+        Format::Delta1Runs => spelled_len::<Cascade<Delta1<8>, Runs>>((), full),
+    }
+}
+
+/// Writes the spelling of a block, which is as long as `into`.
+pub fn encode_block<const L: usize>(
+    format: Format,
+    static_width: u8,
+    full: &Block,
+    into: &mut [u8],
+)
+    requires { (bytes : List ℕ) × BlockOf (format_of format) static_width full.now bytes × (length into.old ≡ length bytes) }
+    ensures { BlockOf (format_of format) static_width full.now into.new }
+{
+    match format {
+        Format::Plain => spell::<Words>((), full, into),
+        Format::Static => spell::<Static<L>>(static_width, full, into),
+        Format::Dynamic => spell::<Dynamic<L>>((), full, into),
+        Format::Runs => spell::<Runs>((), full, into),
+        Format::Delta1Dynamic => spell::<Cascade<Delta1<L>, Dynamic<L>>>((), full, into),
+        Format::Delta16Dynamic => spell::<Cascade<Delta16<L>, Dynamic<L>>>((), full, into),
+        Format::ReferenceDynamic => spell::<Cascade<Reference<L>, Dynamic<L>>>((), full, into),
+        Format::Delta1Runs => spell::<Cascade<Delta1<L>, Runs>>((), full, into),
+    }
+}
+
+/// Leaves in `into` the block that the bytes spell. Nothing is checked again.
+pub fn decode_block<const L: usize>(
+    format: Format,
+    static_width: u8,
+    bytes: &[u8],
+    into: &mut Block,
+)
+    requires { (values : List ℕ) × BlockOf (format_of format) static_width values bytes.now }
+    ensures { BlockOf (format_of format) static_width into.new bytes.now }
+{
+    match format {
+        Format::Plain => Words::decode((), (), bytes, into),
+        Format::Static => Static::<L>::decode(static_width, (), bytes, into),
+        Format::Dynamic => decode_dynamic::<L>(bytes, into),
+        Format::Runs => decode_runs(bytes, into),
+        Format::Delta1Dynamic => decode_delta_dynamic::<Delta1<L>, L>(bytes, into),
+        Format::Delta16Dynamic => decode_delta_dynamic::<Delta16<L>, L>(bytes, into),
+        Format::ReferenceDynamic => decode_delta_dynamic::<Reference<L>, L>(bytes, into),
+        Format::Delta1Runs => decode_delta_runs::<Delta1<L>>(bytes, into),
+    }
+}
+
+/// Appends the spelling of a block. The block's head is found once, for its length and for its bytes.
+pub(crate) fn append_block(
+    format: Format,
+    static_width: u8,
+    full: &Block,
+    bytes: &mut Vec<u8>,
+) -> Result<(), AllocError>
+    requires { (spelling : List ℕ) × BlockOf (format_of format) static_width full.now spelling }
+    ensures ok { OnOk result ((spelling : List ℕ) × BlockOf (format_of format) static_width full.now spelling
+        × (bytes.new.items ≡ bytes.old.items ++ spelling)) }
+    ensures err { OnErr result (bytes.new.items ≡ bytes.old.items) }
+{
+    match format {
+        Format::Plain => append::<Words>((), full, bytes),
+        Format::Static => append::<Static<8>>(static_width, full, bytes),
+        Format::Dynamic => append::<Dynamic<8>>((), full, bytes),
+        Format::Runs => append::<Runs>((), full, bytes),
+        Format::Delta1Dynamic => append::<Cascade<Delta1<8>, Dynamic<8>>>((), full, bytes),
+        Format::Delta16Dynamic => append::<Cascade<Delta16<8>, Dynamic<8>>>((), full, bytes),
+        Format::ReferenceDynamic => append::<Cascade<Reference<8>, Dynamic<8>>>((), full, bytes),
+        Format::Delta1Runs => append::<Cascade<Delta1<8>, Runs>>((), full, bytes),
+    }
+}
+
+/// The length of the block of a packing that the bytes begin with.
+fn found<P: Packing>(param: P::Param, bytes: &[u8]) -> Option<usize>
+    ensures { MatchOption result (NoBlock P.spells param bytes.now) (λ count. BeginsWith (P.spells param) bytes.now count) }
+{
+    match P::check(param, bytes) {
+        Some((_, count)) => Some(count),
+        None => None,
+    }
+}
+
+fn spelled_len<P: Packing>(param: P::Param, full: &Block) -> usize
+    requires { (bytes : List ℕ) × (length bytes < 2 ^ 32) × P.spells param full.now bytes }
+    ensures { (bytes : List ℕ) → P.spells param full.now bytes → result ≡ length bytes }
+{
+    P::byte_len(param, P::head_of(param, full))
+}
+
+fn spell<P: Packing>(param: P::Param, full: &Block, into: &mut [u8])
+    requires { (bytes : List ℕ) × P.spells param full.now bytes × (length into.old ≡ length bytes) }
+    ensures { P.spells param full.now into.new }
+{
+    P::encode(param, P::head_of(param, full), full, into);
+}
+
+fn append<P: Packing>(param: P::Param, full: &Block, bytes: &mut Vec<u8>) -> Result<(), AllocError>
+    requires { (spelling : List ℕ) × (length spelling < 2 ^ 32) × P.spells param full.now spelling }
+    ensures ok { OnOk result ((spelling : List ℕ) × P.spells param full.now spelling × (bytes.new.items ≡ bytes.old.items ++ spelling)) }
+    ensures err { OnErr result (bytes.new.items ≡ bytes.old.items) }
+{
+    let head = P::head_of(param, full);
+    let start = bytes.len();
+    let end = start + P::byte_len(param, head);
+    bytes.resize(end, 0)?;
+    P::encode(param, head, full, &mut bytes[start..]);
+    Ok(())
+}

@@ -1,0 +1,66 @@
+//! Decoding a block whose head is read from its first bytes.
+
+ghost use Rattle.std.specs.Prelude.{◌≡◌, ◌+◌, ◌≤◌, ℕ, List, length, take, drop};
+ghost use Rattle.std.specs.Int.{from_le_bytes, w16, w64};
+ghost use Rattle.definitions.specs.Spellings.{IsDynamicBlock, IsCascade};
+ghost use Rattle.definitions.specs.Runs.{IsRunsBlock};
+
+use block_core::{Block, Packing, Transform};
+use block_formats::Dynamic;
+use cascade_formats::Cascade;
+use run_formats::Runs;
+
+/// How many bytes the base of a cascade takes.
+const BASE_LEN: usize = 8;
+
+pub fn decode_dynamic<const L: usize>(bytes: &[u8], into: &mut Block)
+    requires { (values : List ℕ) × IsDynamicBlock values bytes.now }
+    ensures { IsDynamicBlock into.new bytes.now }
+{
+    Dynamic::<L>::decode((), bytes[0], bytes, into);
+}
+
+pub fn decode_runs(bytes: &[u8], into: &mut Block)
+    requires { (values : List ℕ) × IsRunsBlock values bytes.now }
+    ensures { IsRunsBlock into.new bytes.now }
+{
+    Runs::decode((), number_of_runs(bytes, 0), bytes, into);
+}
+
+/// A cascade whose differences are packed at their own width.
+pub fn decode_delta_dynamic<T: Transform<Base = u64>, const L: usize>(
+    bytes: &[u8],
+    into: &mut Block,
+)
+    requires { (values : List ℕ) × IsCascade T.base_of T.differences_of IsDynamicBlock values bytes.now }
+    ensures { IsCascade T.base_of T.differences_of IsDynamicBlock into.new bytes.now }
+{
+    let head = (base_of(bytes), bytes[BASE_LEN]);
+    Cascade::<T, Dynamic<L>>::decode((), head, bytes, into);
+}
+
+/// A cascade whose differences stand as runs.
+pub fn decode_delta_runs<T: Transform<Base = u64>>(bytes: &[u8], into: &mut Block)
+    requires { (values : List ℕ) × IsCascade T.base_of T.differences_of IsRunsBlock values bytes.now }
+    ensures { IsCascade T.base_of T.differences_of IsRunsBlock into.new bytes.now }
+{
+    let head = (base_of(bytes), number_of_runs(bytes, BASE_LEN));
+    Cascade::<T, Runs>::decode((), head, bytes, into);
+}
+
+/// The base that a cascade begins with.
+fn base_of(bytes: &[u8]) -> u64
+    requires { 8 ≤ length bytes.now }
+    ensures { result ≡ from_le_bytes w64 (take 8 bytes.now) }
+{
+    let (words, _) = bytes.as_chunks::<8>();
+    u64::from_le_bytes(words[0])
+}
+
+/// How many runs a block has that begins at this place.
+fn number_of_runs(bytes: &[u8], at: usize) -> u16
+    requires { at + 2 ≤ length bytes.now }
+    ensures { result ≡ from_le_bytes w16 (take 2 (drop at bytes.now)) }
+{
+    u16::from_le_bytes([bytes[at], bytes[at + 1]])
+}
