@@ -1,6 +1,6 @@
 //! A count of steps, for contracts.
 
-ghost use Rattle.std.specs.Prelude.{◌≡◌};
+ghost use Rattle.std.specs.Prelude.{◌≡◌, ◌≤◌};
 ghost use Rattle.definitions.specs.Steps.{next_count};
 
 use std::alloc::Global;
@@ -40,7 +40,8 @@ impl Steps<Own> {
 impl<G> Steps<G> {
     /// Counts one step.
     pub fn tick(&mut self)
-        ensures { self.new ≡ next_count self.old }
+        ensures next { self.new ≡ next_count self.old }
+        ensures later { self.old ≤ self.new }
     {
         self.count = self.count.saturating_add(1);
     }

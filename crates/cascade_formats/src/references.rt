@@ -44,8 +44,34 @@ fn can_be_raised(base: u64, differences: &[u64]) -> bool
     requires { length differences.now ≡ block_len }
     ensures { IsTrue result ↔ (least_of differences.now ≡ 0) × ((place : ℕ) → place < length differences.now → base + slice_index differences.now place < 2 ^ 64) }
 {
-    let (least, greatest) = extremes(differences);
-    least == 0 && greatest <= u64::MAX - base
+    let (zeros, bits) = zeros_and_bits(differences);
+    if zeros == 0 {
+        return false;
+    }
+
+    // Mostly the base can be added to all their bits, and the greatest is not looked for.
+    if bits <= u64::MAX - base {
+        return true;
+    }
+    let (_, greatest) = extremes(differences);
+    greatest <= u64::MAX - base
+}
+
+// How many values are 0, and a number that has all their bits.
+fn zeros_and_bits(values: &[u64]) -> (u64, u64)
+    requires { length values.now ≡ block_len }
+    ensures none { (result.0 ≡ 0) ↔ ((place : ℕ) → place < length values.now → 0 < slice_index values.now place) }
+    ensures bits { (place : ℕ) → place < length values.now → slice_index values.now place ≤ result.1 }
+{
+    let mut zeros = 0;
+    let mut bits = 0;
+    for value in values {
+        if *value == 0 {
+            zeros += 1;
+        }
+        bits |= *value;
+    }
+    (zeros, bits)
 }
 
 // The least and the greatest value, in one pass.

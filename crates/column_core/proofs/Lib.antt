@@ -1,3 +1,5 @@
 pub mod WordsLemmas
 pub mod PlainLemmas
 pub mod BlockLemmas
+pub mod EncodedLemmas
+pub mod BuilderLemmas

@@ -13,11 +13,17 @@ pub record Shape : Type 0 where
   pub format : Format
   pub values : List ℕ
 
+abbrev pub shape : Format → List ℕ → Shape
+shape format values = record { format = format; values = values }
+
 -- a list that is spelled in a format at a width
 pub record Encoding : Type 0 where
   pub format : Format
   pub width : ℕ
   pub values : List ℕ
+
+abbrev pub encoding : Format → ℕ → List ℕ → Encoding
+encoding format width values = record { format = format; width = width; values = values }
 
 -- the list that the bytes spell in the format at the width
 abbrev pub Spelled : Format → ℕ → List ℕ → Type 0

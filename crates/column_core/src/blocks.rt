@@ -1,12 +1,14 @@
 //! One block in any format. The packing of each format is chosen here and nowhere else.
 
-ghost use Rattle.std.specs.Prelude.{◌≡◌, ◌+◌, ◌<◌, ◌++◌, ◌^◌, ℕ, List, length, take, OnOk, OnErr, MatchOption};
+ghost use Rattle.std.specs.Prelude.{◌≡◌, ◌+◌, ◌<◌, ◌++◌, ◌^◌, ℕ, List, length, take, slice_index, OnOk, OnErr, IfSome, MatchOption};
 ghost use Rattle.definitions.specs.Blocks.{block_len};
 ghost use Rattle.definitions.specs.ColumnFiles.{BlockOf, IsColumnWidth, LacksBlock, BeginsWith, BeginsWithBlock};
 ghost use Rattle.block_core.specs.Formats.{format_of};
 ghost use Rattle.block_core.specs.Laws.{NoBlock};
 
-use crate::spellings::{decode_delta_dynamic, decode_delta_runs, decode_dynamic, decode_runs};
+use crate::spellings::{
+    decode_delta_dynamic, decode_delta_runs, decode_dynamic, decode_runs, pick_dynamic, pick_word,
+};
 use block_core::{Block, Format, Packing};
 use block_formats::{Dynamic, Static, Words};
 use cascade_formats::{Cascade, Delta1, Delta16, Reference};
@@ -89,6 +91,26 @@ pub fn decode_block<const L: usize>(
         Format::Delta16Dynamic => decode_delta_dynamic::<Delta16<L>, L>(bytes, into),
         Format::ReferenceDynamic => decode_delta_dynamic::<Reference<L>, L>(bytes, into),
         Format::Delta1Runs => decode_delta_runs::<Delta1<L>>(bytes, into),
+    }
+}
+
+/// The value at a place of the block that the bytes spell, in the formats that give one value cheaper than all.
+pub(crate) fn pick_value(
+    format: Format,
+    static_width: u8,
+    bytes: &[u8],
+    place: usize,
+) -> Option<u64>
+    requires spelled { (values : List ℕ) × BlockOf (format_of format) static_width values bytes.now }
+    requires within { place < block_len }
+    ensures { (values : List ℕ) → BlockOf (format_of format) static_width values bytes.now →
+        IfSome result (λ value. value ≡ slice_index values place) }
+{
+    match format {
+        Format::Plain => Some(pick_word(bytes, place)),
+        Format::Static => Some(strand_pack::pick(bytes, static_width, place)),
+        Format::Dynamic => Some(pick_dynamic(bytes, place)),
+        _ => None,
     }
 }
 

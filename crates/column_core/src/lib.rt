@@ -4,8 +4,18 @@
 #![tactic(auto)]
 
 mod blocks;
+mod builders;
+mod columns;
+mod cursors;
+mod encodings;
+mod gathers;
 mod plain;
 mod spellings;
+mod words;
 
 pub use blocks::{block_len, check_block, decode_block, encode_block};
+pub use builders::{Builder, encode_list};
+pub use columns::Column;
+pub use cursors::Cursor;
+pub use gathers::Gather;
 pub use plain::{PlainError, encode_plain, read_plain};

@@ -1,10 +1,12 @@
 //! Decoding a block whose head is read from its first bytes.
 
-ghost use Rattle.std.specs.Prelude.{◌≡◌, ◌+◌, ◌≤◌, ℕ, List, length, take, drop};
+ghost use Rattle.std.specs.Prelude.{◌≡◌, ◌+◌, ◌<◌, ◌≤◌, ℕ, List, length, take, drop, slice_index};
 ghost use Rattle.std.specs.Int.{from_le_bytes, w16, w64};
-ghost use Rattle.definitions.specs.Spellings.{IsDynamicBlock, IsCascade};
+ghost use Rattle.definitions.specs.Spellings.{IsPlainBlock, IsDynamicBlock, IsCascade};
+ghost use Rattle.definitions.specs.Blocks.{block_len};
 ghost use Rattle.definitions.specs.Runs.{IsRunsBlock};
 
+use crate::words::word_at;
 use block_core::{Block, Packing, Transform};
 use block_formats::Dynamic;
 use cascade_formats::Cascade;
@@ -46,6 +48,24 @@ pub fn decode_delta_runs<T: Transform<Base = u64>>(bytes: &[u8], into: &mut Bloc
 {
     let head = (base_of(bytes), number_of_runs(bytes, BASE_LEN));
     Cascade::<T, Runs>::decode((), head, bytes, into);
+}
+
+/// A value of a block of words.
+pub fn pick_word(bytes: &[u8], place: usize) -> u64
+    requires spelled { (values : List ℕ) × IsPlainBlock values bytes.now }
+    requires within { place < block_len }
+    ensures { (values : List ℕ) → IsPlainBlock values bytes.now → result ≡ slice_index values place }
+{
+    word_at(bytes, place)
+}
+
+/// A value of a block that is packed at its own width.
+pub fn pick_dynamic(bytes: &[u8], place: usize) -> u64
+    requires spelled { (values : List ℕ) × IsDynamicBlock values bytes.now }
+    requires within { place < block_len }
+    ensures { (values : List ℕ) → IsDynamicBlock values bytes.now → result ≡ slice_index values place }
+{
+    strand_pack::pick(&bytes[1..], bytes[0], place)
 }
 
 /// The base that a cascade begins with.

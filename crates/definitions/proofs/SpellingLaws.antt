@@ -38,13 +38,13 @@ both : (a b : Bool) → (a && b) ≡ true → (a ≡ true) × (b ≡ true)
 both true b e = (refl, e)
 both false b e = absurd (cc)
 
-AreBelow-from_fits : (width : ℕ) (values : List ℕ) → fits_width values width ≡ true → AreBelow width values
+pub AreBelow-from_fits : (width : ℕ) (values : List ℕ) → fits_width values width ≡ true → AreBelow width values
 AreBelow-from_fits width [] fits = λ i within. absurd (omega arith)
 AreBelow-from_fits width (value ∷ values) fits =
     let parts = both _ _ fits in
     below_cons width value values (ltb-true value (2 ^ width) parts.0) (AreBelow-from_fits width values parts.1)
 
-fits_from_AreBelow : (width : ℕ) (values : List ℕ) → AreBelow width values → fits_width values width ≡ true
+pub fits_from_AreBelow : (width : ℕ) (values : List ℕ) → AreBelow width values → fits_width values width ≡ true
 fits_from_AreBelow width [] small = refl
 fits_from_AreBelow width (value ∷ values) small =
     ap (λ b. b && fits_width values width) (lt-ltb value (2 ^ width) (small 0 (omega arith))) ∙ fits_from_AreBelow width values (λ i within. small (suc i) (omega arith))

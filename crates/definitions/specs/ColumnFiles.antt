@@ -1,10 +1,10 @@
 -- The formats, and the one file that a column has in each.
-use Rattle.std.specs.Prelude.{◌≡◌, ℕ, ◌+◌, ◌*◌, ◌/◌, ◌<◌, ◌≤◌, List, [], ◌∷◌, ◌++◌, length, take, flat_map}
+use Rattle.std.specs.Prelude.{◌≡◌, ℕ, ◌+◌, ◌*◌, ◌/◌, ◌<◌, ◌≤◌, Bool, true, List, [], ◌∷◌, ◌++◌, length, take, flat_map}
 use Rattle.std.specs.List.{AllByRecursion}
 use Rattle.definitions.specs.Blocks.{block_len}
 use Rattle.definitions.specs.Columns.{IsColumn, column_head, words_of}
 use Rattle.definitions.specs.Packed.{AreBelow, IsPacked}
-use Rattle.definitions.specs.Spellings.{width_of, IsPlainBlock, IsDynamicBlock, IsCascade}
+use Rattle.definitions.specs.Spellings.{fits_width, width_of, IsPlainBlock, IsDynamicBlock, IsCascade}
 use Rattle.definitions.specs.Differences.{first_of, delta1_of, delta16_of, least_of, reference_of}
 use Rattle.definitions.specs.Runs.{IsRunsBlock}
 
@@ -77,6 +77,17 @@ static_width_of delta1_dynamic values = 0
 static_width_of delta16_dynamic values = 0
 static_width_of reference_dynamic values = 0
 static_width_of delta1_runs values = 0
+
+-- whether the whole blocks fit the column's width
+abbrev pub fits_columns : Format → ℕ → List ℕ → Bool
+fits_columns plain width values = true
+fits_columns static width values = fits_width (whole_blocks values) width
+fits_columns dynamic width values = true
+fits_columns runs width values = true
+fits_columns delta1_dynamic width values = true
+fits_columns delta16_dynamic width values = true
+fits_columns reference_dynamic width values = true
+fits_columns delta1_runs width values = true
 
 -- a full block beside its spelling
 pub record Piece : Type 0 where

@@ -1,7 +1,7 @@
 -- What the writes of values and of cells leave.
 use Rattle.std.proofs.Common.{◌≡◌, ℕ, ◌+◌, ◌-◌, ◌*◌, ◌<◌, ◌≤◌, List, [], ◌∷◌, ◌++◌, length, map, take, drop, get_or, flat_map, replicate, refl, sym, ap, ap₂, ◌∙◌, subst, arith, add-one, length-append, append_assoc}
 use borrow.Rule.Slice.PartMut.{put_mid}
-use Rattle.std.proofs.lemmas.List.{length-take, length-drop, length-replicate, take_at, drop_all, at_drop_more, append-nil}
+use Rattle.std.proofs.lemmas.List.{take-append-drop, length-take, length-drop, length-replicate, take_at, drop_all, at_drop_more, append-nil}
 use Rattle.std.proofs.lemmas.Slice.{take-put_mid}
 use Rattle.definitions.specs.Runs.{Run, run_values, run_bytes}
 use Rattle.definitions.proofs.RunLaws.{length-run_bytes, length-runs_bytes, runs_from, runs_from-same, runs_from-other, length-runs_from}
@@ -38,13 +38,13 @@ written place count end into part rest all is within long e =
       ap (λ (xs : List ℕ). xs ++ rest) (take-put_mid place (end - place) into part end (omega arith) (omega arith)) ∙ append_assoc (take place into) part rest ∙ e,
     )
 
--- the values of one more run are written
+-- the values of one more run are written, and any behind them
 pub values_more : (cells : List (List ℕ)) (i place times value : ℕ) (into part : List ℕ) → i < length cells → place ≤ length into → length into ≡ length (run_values (map run_in cells))
     → take place into ++ run_values (map run_in (drop i cells)) ≡ run_values (map run_in cells)
-    → times ≡ times_in (get_or cells i []) → value ≡ value_in (get_or cells i []) → part ≡ replicate (length (take ((place + times) - place) (drop place into))) value
-    → (place + times ≤ length (put_mid place ((place + times) - place) into part))
-    × (take (place + times) (put_mid place ((place + times) - place) into part) ++ run_values (map run_in (drop (i + 1) cells)) ≡ run_values (map run_in cells))
-values_more cells i place times value into part within before whole e is_times is_value is_part =
+    → times ≡ times_in (get_or cells i []) → value ≡ value_in (get_or cells i []) → length part ≡ length (take (length into - place) (drop place into)) → take times part ≡ replicate times value
+    → (place + times ≤ length (put_mid place (length into - place) into part))
+    × (take (place + times) (put_mid place (length into - place) into part) ++ run_values (map run_in (drop (i + 1) cells)) ≡ run_values (map run_in cells))
+values_more cells i place times value into part within before whole e is_times is_value kept first =
     let rest = run_values (map run_in (drop (i + 1) cells)) in
     let step : run_values (map run_in (drop i cells)) ≡ replicate times value ++ rest =
     at_drop_more (λ (list : List (List ℕ)). run_values (map run_in list)) cells i [] within
@@ -52,10 +52,18 @@ values_more cells i place times value into part within before whole e is_times i
     let now : take place into ++ (replicate times value ++ rest) ≡ run_values (map run_in cells) = ap (λ (xs : List ℕ). take place into ++ xs) (sym step) ∙ e in
     let room : place + times ≤ length into =
     omega (arith, ap length now, length-append (take place into) (replicate times value ++ rest), length-append (replicate times value) rest, length-replicate times value, length-take place into) in
-    let size : length (take ((place + times) - place) (drop place into)) ≡ times = omega (arith, length-take ((place + times) - place) (drop place into), length-drop place into) in
-    let same : part ≡ replicate times value = is_part ∙ ap (λ (n : ℕ). replicate n value) size in
-    written place times (place + times) into part rest (run_values (map run_in cells)) refl room (ap length same ∙ length-replicate times value)
-    (ap (λ (xs : List ℕ). take place into ++ (xs ++ rest)) same ∙ now)
+    let front : List ℕ = take place into ++ replicate times value in
+    let long : length front ≡ place + times = omega (arith, length-append (take place into) (replicate times value), length-take place into, length-replicate times value) in
+    let behind : List ℕ = drop (length into - place) (drop place into) in
+    let split : part ≡ replicate times value ++ drop times part = sym (take-append-drop times part) ∙ ap (λ (xs : List ℕ). xs ++ drop times part) first in
+    let all : put_mid place (length into - place) into part ≡ front ++ (drop times part ++ behind) =
+    ap (λ (xs : List ℕ). take place into ++ (xs ++ behind)) split
+    ∙ ap (λ (xs : List ℕ). take place into ++ xs) (append_assoc (replicate times value) (drop times part) behind)
+    ∙ sym (append_assoc (take place into) (replicate times value) (drop times part ++ behind)) in (
+      omega (arith, ap length all, length-append front (drop times part ++ behind), long),
+      ap (λ (xs : List ℕ). take (place + times) xs ++ rest) all ∙ ap (λ (xs : List ℕ). xs ++ rest) (take_at front (drop times part ++ behind) (place + times) long)
+      ∙ append_assoc (take place into) (replicate times value) rest ∙ now,
+    )
 
 -- how much room the runs that are left take
 pub room_for : (place : ℕ) (into all : List ℕ) (runs : List Run) → place ≤ length into → length into ≡ length all → take place into ++ flat_map run_bytes runs ≡ all → place + 10 * length runs ≡ length into

@@ -1,6 +1,6 @@
 //! Reading a block: what its bytes have to be, and its values.
 
-ghost use Rattle.std.specs.Prelude.{◌≡◌, ◌≢◌, ◌↔◌, ℕ, List, length, map, replicate, IsTrue, MatchOption, Some, None};
+ghost use Rattle.std.specs.Prelude.{◌≡◌, ◌≢◌, ◌↔◌, ℕ, List, length, map, replicate, take, ◌≤◌, IsTrue, MatchOption, Some, None};
 ghost use Rattle.definitions.specs.Blocks.{block_len};
 ghost use Rattle.definitions.specs.Runs.{run_values};
 ghost use Rattle.run_formats.specs.Cells.{count_in, run_in, Passes, BeginsWithRuns};
@@ -8,6 +8,9 @@ ghost use Rattle.run_formats.specs.Cells.{count_in, run_in, Passes, BeginsWithRu
 use crate::cells::{HEAD_LEN, block_size, cells_of, run_count_in, times_of, value_of};
 /// How many runs a block has at most: each of its 1,024 values is one.
 const MAX_RUNS: u16 = 1024;
+
+/// Up to how many values a run is written by a fixed number of stores.
+const SHORT: usize = 4;
 
 /// How many runs the block has that the bytes begin with, where they begin with one.
 pub fn found_count(bytes: &[u8]) -> Option<u16>
@@ -53,22 +56,30 @@ fn goes_on(before: Option<u64>, value: u64) -> bool
     }
 }
 
-/// Writes the values of the runs, each run by one fill.
+/// Writes the values of the runs, one after the other.
 pub fn write_values(cells: &[[u8; 10]], into: &mut [u64])
     requires { length into.old ≡ length (run_values (map run_in cells.now)) }
     ensures { into.new ≡ run_values (map run_in cells.now) }
 {
     let mut place = 0;
     for cell in cells {
-        let end = place + usize::from(times_of(cell));
-        repeat(value_of(cell), &mut into[place..end]);
-        place = end;
+        let times = usize::from(times_of(cell));
+        write_run(value_of(cell), times, &mut into[place..]);
+        place += times;
     }
 }
 
+/// Writes a run at the front. What stands behind it is any: it is written later.
 #[inline(always)]
-fn repeat(value: u64, into: &mut [u64])
-    ensures { into.new ≡ replicate (length into.old) value }
+fn write_run(value: u64, times: usize, into: &mut [u64])
+    requires { times ≤ length into.old }
+    ensures front { take times into.new ≡ replicate times value }
+    ensures kept { length into.new ≡ length into.old }
 {
-    into.fill(value);
+    // A short run in as many places as a fixed number of stores has: no loop is left, nor a branch that depends on its length.
+    if times <= SHORT && SHORT <= into.len() {
+        into[..SHORT].fill(value);
+    } else {
+        into[..times].fill(value);
+    }
 }

@@ -16,4 +16,4 @@ mod words;
 pub use packing::pack;
 pub use picking::pick;
 pub use unpacking::unpack;
-pub use widths::width_of;
+pub use widths::{width_of, width_of_values};

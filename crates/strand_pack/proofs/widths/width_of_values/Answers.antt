@@ -3,11 +3,11 @@ use Rattle.std.specs.Int.{leading_zeros, w64}
 use Rattle.std.proofs.lemmas.Nat.{le_or_l, le_or_r, or_lt}
 use Rattle.definitions.specs.Packed.{IsWidth}
 use Rattle.strand_pack.proofs.WidthLaws.{IsWidth-from_bits}
-use Rattle.strand_pack.proofs.widths.width_of.Goals as goal
+use Rattle.strand_pack.proofs.widths.width_of_values.Goals as goal
 
 pub loop-value-preserved : goal.loop-value-preserved
 loop-value-preserved c =
-    let here = get_or c.as_slice-value-items.result.now c.loop-value.value-index 0 in
+    let here = get_or c.args.values.now c.loop-value.value-index 0 in
     let all = c.loop-value.all in
     record {
       each = below_more _ _
@@ -18,9 +18,6 @@ loop-value-preserved c =
 
 pub returns-clause-least : goal.returns-clause-least
 returns-clause-least c =
-    let values = c.as_slice-value-items.result.now in
-    let same : values ≡ c.args.block.now = c.as_slice-value-items.ensures.values in
-    subst (λ l. IsWidth (64 - leading_zeros w64 c.loop-value.all) l) same
-    (IsWidth-from_bits values c.loop-value.all (c.loop-value.auto.all-fits.fits)
+    IsWidth-from_bits c.args.values.now c.loop-value.all (c.loop-value.auto.all-fits.fits)
     (λ k below. c.loop-value.invariant.each k (omega arith))
-    (λ v small. c.loop-value.invariant.least v (λ k below. small k (omega arith))))
+    (λ v small. c.loop-value.invariant.least v (λ k below. small k (omega arith)))

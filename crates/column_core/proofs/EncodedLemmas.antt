@@ -1,0 +1,157 @@
+-- The list of an encoding is the one that its bytes spell, and where its blocks stand.
+use Rattle.std.proofs.Common.{◌≡◌, ℕ, zero, suc, ◌+◌, ◌-◌, ◌*◌, ◌/◌, ◌%◌, ◌^◌, ◌<◌, ◌≤◌, List, [], ◌∷◌, ◌++◌, length, take, drop, get_or, Result, Ok, Err, OnErr, refl, sym, ap, ap₂, ◌∙◌, subst, inl, inr, arith, length-append}
+use Rattle.std.specs.Int.{from_le_bytes, w64}
+use Rattle.std.specs.Simd.{first_chunks}
+use Rattle.std.proofs.lemmas.Bool.{cases_lt}
+use Rattle.std.proofs.lemmas.List.{take_at, drop_at, length-take, length-drop, get_or-take, get_or-drop}
+use Rattle.definitions.proofs.WordLaws.{length-word_bytes, from_le_bytes-word_bytes}
+use Rattle.definitions.specs.Blocks.{block_len, block_at}
+use Rattle.definitions.specs.Columns.{max_rows, column_head, word_bytes, words_of}
+use Rattle.definitions.specs.ColumnFiles as columns
+use Rattle.definitions.specs.ColumnFiles.{BlockOf, piece_bytes, IsEncoded, IsIndexed}
+use Rattle.definitions.proofs.PieceLaws.{with_count, encoded_size, IsIndexed-empty, IsIndexed-push, IsIndexed-tail, BlockPlace, block_place, TailPlace, tail_place, Counts, counts}
+use Rattle.definitions.proofs.BlockLaws.{BlockOf-full}
+use Rattle.definitions.proofs.DifferenceLaws.{words_from}
+use Rattle.block_core.specs.declared.formats.Format.{Format}
+use Rattle.block_core.specs.Formats.{format_of, tag_of}
+use Rattle.column_core.specs.Columns.{Spelled, Spelled-prop}
+
+pub stored_is : (format : Format) (width : ℕ) (bytes : List ℕ) (s : Spelled format width bytes) (values : List ℕ) → IsEncoded (format_of format) width values bytes → s.0 ≡ values
+stored_is format width bytes s values is =
+    let t : Spelled format width bytes = (values, ∣ is ∣₁) in
+    ap (λ (u : Spelled format width bytes). u.0) (Spelled-prop format width bytes s t)
+
+pub indexed_as : (format : Format) (width : ℕ) (bytes starts : List ℕ) (count : ℕ) (s : Spelled format width bytes) (values : List ℕ) → count ≡ length values
+    → IsIndexed (format_of format) width values bytes starts → (count ≡ length s.0) × IsIndexed (format_of format) width s.0 bytes starts
+indexed_as format width bytes starts count s values counted is =
+    let same : s.0 ≡ values = stored_is format width bytes s values is.encoded in
+    (counted ∙ ap length (sym same), subst (λ l. IsIndexed (format_of format) width l bytes starts) (sym same) is)
+
+-- the part of the bytes where a block stands
+pub record BlockSpan (format : columns.Format) (width : ℕ) (values bytes : List ℕ) (block start end : ℕ) : Type 0 where
+  pub forward : start ≤ end
+  pub within : end ≤ length bytes
+  pub spelled : BlockOf format width (block_at values block) (take (end - start) (drop start bytes))
+
+pub block_span : (format : columns.Format) (width : ℕ) (values bytes starts : List ℕ) (block tail start end : ℕ) → IsIndexed format width values bytes starts → block < length values / block_len
+    → tail ≡ 8 * (length values % block_len) → start ≡ get_or starts block 0 → (block + 1 < length starts → end ≡ get_or starts (block + 1) 0) → (length starts ≤ block + 1 → end ≡ length bytes - tail)
+    → BlockSpan format width values bytes block start end
+block_span format width values bytes starts block tail start end is inner tails begin next last =
+    let at : BlockPlace format width values bytes starts block = block_place format width values bytes starts block is inner in
+    let count = counts format width values bytes starts is in
+    let at_end : end ≡ start + length at.spelling =
+    elim (cases_lt (block + 1) (length starts)) [
+      | inl more ↦ next more ∙ at.next more ∙ omega (arith, begin)
+      | inr past ↦ let e_last = at.last (omega (arith, count.whole, count.blocks)) in last past ∙ omega (arith, e_last, begin)
+    ] in
+    let size : end - start ≡ length at.spelling = omega arith in
+    let bytes_are : take (end - start) (drop start bytes) ≡ at.spelling = ap₂ (λ n m. take n (drop m bytes)) size begin ∙ at.bytes_are in
+    record {
+      forward = omega arith;
+      within = let inside = at.within in omega (arith, begin);
+      spelled = subst (BlockOf format width (block_at values block)) (sym bytes_are) at.block;
+    }
+
+pub empty_file : (format : Format) (width : ℕ) (bytes starts : List ℕ) → bytes ≡ column_head (tag_of format) width 0 → starts ≡ [] → IsIndexed (format_of format) width [] bytes starts
+empty_file format width bytes starts head none =
+    subst (λ l. IsIndexed (format_of format) width [] l starts) (sym head)
+    (subst (IsIndexed (format_of format) width [] (column_head (tag_of format) width 0)) (sym none) (IsIndexed-empty (format_of format) width))
+
+-- A change of an encoding, from what its bytes and starts become.
+pub record IsChange (format : Format) (width count : ℕ) (bytes starts : List ℕ) (values : List ℕ) : Type 0 where
+  pub indexed : IsIndexed (format_of format) width values bytes starts
+  pub counted : count ≡ length values
+
+-- what an encoding becomes by a block
+pub pushed : (format : Format) (width count : ℕ) (values before begun block bytes starts : List ℕ) → IsIndexed (format_of format) width values before begun → count ≡ length values + block_len
+    → length values % block_len ≡ 0 → length values + block_len ≤ max_rows
+    → (spelling : List ℕ) × BlockOf (format_of format) width block spelling × (bytes ≡ with_count count (before ++ spelling)) → starts ≡ begun ++ length before ∷ []
+    → IsChange format width count bytes starts (values ++ block)
+pushed format width count values before begun block bytes starts is counted whole few spelled begins =
+    let step = IsIndexed-push (format_of format) width values before begun block spelled.0 is whole few spelled.1 in
+    let made : with_count (length values + block_len) (before ++ spelled.0) ≡ bytes = ap (λ n. with_count n (before ++ spelled.0)) (sym counted) ∙ sym spelled.2 in
+    record {
+      indexed = subst (λ l. IsIndexed (format_of format) width (values ++ block) l starts) made
+          (subst (IsIndexed (format_of format) width (values ++ block) (with_count (length values + block_len) (before ++ spelled.0))) (sym begins) step);
+      counted = counted ∙ omega (arith, length-append values block, (BlockOf-full (format_of format) width block spelled.0 spelled.1).whole);
+    }
+
+-- what an encoding becomes by its tail
+pub tailed : (format : Format) (width count : ℕ) (values before begun tail bytes : List ℕ) → IsIndexed (format_of format) width values before begun → count ≡ length values + length tail
+    → length values % block_len ≡ 0 → length values + length tail ≤ max_rows → length tail < block_len → ((i : ℕ) → get_or tail i 0 < 2 ^ 64) → bytes ≡ with_count count (before ++ words_of tail)
+    → IsChange format width count bytes begun (values ++ tail)
+tailed format width count values before begun tail bytes is counted whole few short words are =
+    let step = IsIndexed-tail (format_of format) width values before begun tail is whole few short (words_from tail words) in
+    let made : with_count (length values + length tail) (before ++ words_of tail) ≡ bytes = ap (λ n. with_count n (before ++ words_of tail)) (sym counted) ∙ sym are in
+    record {
+      indexed = subst (λ l. IsIndexed (format_of format) width (values ++ tail) l begun) made step;
+      counted = counted ∙ sym (length-append values tail);
+    }
+
+-- an encoding that did not change
+pub unchanged : (format : Format) (width count : ℕ) (values before begun bytes starts : List ℕ) → IsIndexed (format_of format) width values before begun → count ≡ length values → bytes ≡ before → starts ≡ begun
+    → IsChange format width count bytes starts values
+unchanged format width count values before begun bytes starts is counted same begins = record {
+  indexed = subst (λ l. IsIndexed (format_of format) width values l starts) (sym same) (subst (IsIndexed (format_of format) width values before) (sym begins) is);
+  counted = counted;
+}
+
+pub change_is : (format : Format) (width count : ℕ) (bytes starts values : List ℕ) (s : Spelled format width bytes) → IsChange format width count bytes starts values
+    → (count ≡ length s.0) × IsIndexed (format_of format) width s.0 bytes starts
+change_is format width count bytes starts values s change = indexed_as format width bytes starts count s values change.counted change.indexed
+
+pub head_fits : (format : Format) (width : ℕ) (values bytes starts : List ℕ) → IsIndexed (format_of format) width values bytes starts → 16 ≤ length bytes
+head_fits format width values bytes starts is = omega (arith, encoded_size (format_of format) width values bytes is.encoded)
+
+pub on_err : {T E P : Type 0} → (r : Result T E) → P → OnErr r P
+on_err (Ok value) p = tt
+on_err (Err refused) p = p
+
+pub length-first_chunks : (size count : ℕ) (bytes : List ℕ) → length (first_chunks size count bytes) ≡ count
+length-first_chunks size zero bytes = refl
+length-first_chunks size (suc count) bytes = ap suc (length-first_chunks size count (drop size bytes))
+
+-- the chunks of a list's words are the words
+pub chunks_of_words : (values : List ℕ) (place : ℕ) (other : List ℕ) → place < length values → get_or (first_chunks 8 (length values) (words_of values)) place other ≡ word_bytes (get_or values place 0)
+chunks_of_words [] place other within = absurd (omega arith)
+chunks_of_words (value ∷ values) zero other within = take_at (word_bytes value) (words_of values) 8 (length-word_bytes value)
+chunks_of_words (value ∷ values) (suc place) other within =
+    let rest : drop 8 (words_of (value ∷ values)) ≡ words_of values = drop_at (word_bytes value) (words_of values) 8 (length-word_bytes value) in
+    ap (λ l. get_or (first_chunks 8 (length values) l) place other) rest ∙ chunks_of_words values place other (omega arith)
+
+-- what a file's head tells
+pub record HeadCells (format : columns.Format) (width : ℕ) (values bytes : List ℕ) : Type 0 where
+  pub tag : get_or bytes 5 0 ≡ columns.tag_of format
+  pub widths : get_or bytes 6 0 ≡ width
+  pub count : from_le_bytes w64 (take 8 (drop 8 bytes)) ≡ length values
+  pub long : 16 ≤ length bytes
+
+pub head_cells : (format : columns.Format) (width : ℕ) (values bytes : List ℕ) → IsEncoded format width values bytes → HeadCells format width values bytes
+head_cells format width values bytes is =
+    let rest = piece_bytes is.pieces ++ words_of is.tail in
+    let word : take 8 (drop 8 bytes) ≡ word_bytes (length values) = ap (λ l. take 8 (drop 8 l)) is.bytes_are ∙ take_at (word_bytes (length values)) rest 8 (length-word_bytes (length values)) in
+    record {
+      tag = ap (λ l. get_or l 5 0) is.bytes_are;
+      widths = ap (λ l. get_or l 6 0) is.bytes_are;
+      count = ap (from_le_bytes w64) word ∙ from_le_bytes-word_bytes (length values) (omega (arith, is.column.few));
+      long = omega (arith, encoded_size format width values bytes is);
+    }
+
+-- a column as its head was read
+pub as_read : (format read : Format) (width wide : ℕ) (values bytes owned starts begun : List ℕ) → read ≡ format → wide ≡ width → owned ≡ bytes → begun ≡ starts
+    → IsIndexed (format_of format) width values bytes starts → IsIndexed (format_of read) wide values owned begun
+as_read format read width wide values bytes owned starts begun formats widths own begins is =
+    subst (λ f. IsIndexed (format_of f) wide values owned begun) (sym formats)
+    (subst (λ w. IsIndexed (format_of format) w values owned begun) (sym widths)
+    (subst (λ l. IsIndexed (format_of format) width values l begun) (sym own)
+    (subst (IsIndexed (format_of format) width values bytes) (sym begins) is)))
+
+-- A whole block of a list, and its values.
+pub length-block_at : (values : List ℕ) (number : ℕ) → number < length values / block_len → length (block_at values number) ≡ block_len
+length-block_at values number whole = omega (arith, length-take block_len (drop (number * block_len) values), length-drop (number * block_len) values)
+
+pub block_at-index : (values : List ℕ) (place : ℕ) → get_or (block_at values (place / block_len)) (place % block_len) 0 ≡ get_or values place 0
+block_at-index values place =
+    let sum : place / block_len * block_len + place % block_len ≡ place = omega arith in
+    get_or-take block_len (drop (place / block_len * block_len) values) (place % block_len) 0 (omega arith)
+    ∙ get_or-drop (place / block_len * block_len) values (place % block_len) 0 ∙ ap (λ n. get_or values n 0) sum

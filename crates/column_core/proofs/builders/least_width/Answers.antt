@@ -1,0 +1,14 @@
+use Rattle.std.proofs.Common.{◌≡◌, ◌*◌, ◌/◌, length, take, sym, ap, ◌∙◌, arith}
+use Rattle.std.proofs.lemmas.List.{take_all}
+use Rattle.definitions.specs.Blocks.{block_len}
+use Rattle.definitions.specs.Spellings.{width_of}
+use Rattle.definitions.specs.ColumnFiles.{whole_blocks, static_width_of}
+use Rattle.definitions.proofs.SpellingLaws.{width_of-is}
+use Rattle.block_core.specs.Formats.{format_of}
+use Rattle.column_core.proofs.builders.least_width.Goals as goal
+
+pub returns-in-Static-clause-width : goal.returns-in-Static-clause-width
+returns-in-Static-clause-width c =
+    let values = c.args.whole.now in
+    let all : whole_blocks values ≡ values = take_all (length values / block_len * block_len) values (omega (arith, c.requires)) in
+    rw c.in-Static.is (sym (width_of-is c.width_of_values.result values c.width_of_values.ensures.least c.width_of_values.ensures.narrow) ∙ ap width_of (sym all))

@@ -1,0 +1,10 @@
+use Rattle.std.proofs.Common.{◌≡◌, List, ℕ, ap}
+use Rattle.column_core.specs.Columns.{encoding}
+use Rattle.column_core.proofs.EncodedLemmas.{stored_is, indexed_as}
+use Rattle.column_core.proofs.encodings.Encoded.adopt.Goals as goal
+
+pub invariant_of-result-2 : goal.invariant_of-result-2
+invariant_of-result-2 c = indexed_as c.args.format c.args.width c.args.bytes.items c.args.starts.items c.args.count c.result-1.given.0 c.requires.0 c.requires.1 c.requires.2
+
+pub returns : goal.returns
+returns c = λ values is. ap (encoding c.args.format c.args.width) (stored_is c.args.format c.args.width c.args.bytes.items c.result-1.given.0 values is)

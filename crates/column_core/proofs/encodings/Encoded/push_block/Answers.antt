@@ -1,0 +1,46 @@
+use Rattle.std.proofs.Common.{◌≡◌, ◌+◌, ◌++◌, List, ℕ, sym, ap, arith, ◌∙◌}
+use Rattle.definitions.proofs.BlockLaws.{BlockOf-spelling}
+use Rattle.block_core.specs.Formats.{format_of}
+use Rattle.column_core.specs.Columns.{Encoding, encoding}
+use Rattle.column_core.proofs.EncodedLemmas.{IsChange, stored_is, change_is, pushed, unchanged, head_fits, on_err}
+use Rattle.column_core.proofs.encodings.Encoded.push_block.Goals as goal
+
+pub grow-requires-clause-head : goal.grow-requires-clause-head
+grow-requires-clause-head c = head_fits c.self.inside.format c.self.inside.width c.self.inside.stored.0 c.self.inside.bytes.items c.self.inside.starts.items c.self.invariant.1
+
+pub grow-requires-clause-spelled : goal.grow-requires-clause-spelled
+grow-requires-clause-spelled c =
+    BlockOf-spelling (format_of c.self.inside.format) c.self.inside.width c.args.full.now (rw (← c.self.view_is) at c.requires.lawful) c.requires.full (rw (← c.self.view_is) at c.requires.fits)
+
+pub invariant_of-self : goal.invariant_of-self
+invariant_of-self c =
+    let i = c.self.inside in
+    change_is i.format i.width i.count c.grow.new.bytes.items c.grow.new.starts.items i.stored.0 c.in_err-grow.self-1-own.given.0
+    (unchanged i.format i.width i.count i.stored.0 i.bytes.items i.starts.items c.grow.new.bytes.items c.grow.new.starts.items c.self.invariant.1 c.self.invariant.0 c.in_err-grow.ensures.bytes_kept c.in_err-grow.ensures.starts_kept)
+
+pub returns-in_err-grow-clause-err : goal.returns-in_err-grow-clause-err
+returns-in_err-grow-clause-err c =
+    let i = c.self.inside in
+    let kept = unchanged i.format i.width i.count i.stored.0 i.bytes.items i.starts.items c.grow.new.bytes.items c.grow.new.starts.items c.self.invariant.1 c.self.invariant.0 c.in_err-grow.ensures.bytes_kept c.in_err-grow.ensures.starts_kept in
+    rw (← c.self.view_is) (on_err c.from_residual.result (ap (encoding i.format i.width) (stored_is i.format i.width c.grow.new.bytes.items c.in_err-grow.self-1-own.given.0 i.stored.0 kept.indexed.encoded)))
+
+pub invariant_of-self-inside-2 : goal.invariant_of-self-inside-2
+invariant_of-self-inside-2 c =
+    let i = c.self.inside in
+    let change = pushed i.format i.width (i.count + 1024) i.stored.0 i.bytes.items i.starts.items c.args.full.now c.grow.new.bytes.items c.grow.new.starts.items c.self.invariant.1 (ap (λ n. n + 1024) c.self.invariant.0)
+    (rw (← c.self.view_is) at c.requires.whole) (rw (← c.self.view_is) at c.requires.few) c.in_ok-grow.ensures.bytes c.in_ok-grow.ensures.starts in
+    ((i.stored.0 ++ c.args.full.now, ∣ change.indexed.encoded ∣₁), tt)
+
+pub invariant_of-self-2 : goal.invariant_of-self-2
+invariant_of-self-2 c =
+    let i = c.self.inside in
+    let change = pushed i.format i.width (i.count + 1024) i.stored.0 i.bytes.items i.starts.items c.args.full.now c.grow.new.bytes.items c.grow.new.starts.items c.self.invariant.1 (ap (λ n. n + 1024) c.self.invariant.0)
+    (rw (← c.self.view_is) at c.requires.whole) (rw (← c.self.view_is) at c.requires.few) c.in_ok-grow.ensures.bytes c.in_ok-grow.ensures.starts in
+    change_is i.format i.width (i.count + 1024) c.grow.new.bytes.items c.grow.new.starts.items (i.stored.0 ++ c.args.full.now) c.self-2-1.given.0 change
+
+pub returns-clause-ok : goal.returns-clause-ok
+returns-clause-ok c =
+    let i = c.self.inside in
+    let change = pushed i.format i.width (i.count + 1024) i.stored.0 i.bytes.items i.starts.items c.args.full.now c.grow.new.bytes.items c.grow.new.starts.items c.self.invariant.1 (ap (λ n. n + 1024) c.self.invariant.0)
+    (rw (← c.self.view_is) at c.requires.whole) (rw (← c.self.view_is) at c.requires.few) c.in_ok-grow.ensures.bytes c.in_ok-grow.ensures.starts in
+    rw (← c.self.view_is) (ap (encoding i.format i.width) (stored_is i.format i.width c.grow.new.bytes.items c.self-2-1.given.0 (i.stored.0 ++ c.args.full.now) change.indexed.encoded))

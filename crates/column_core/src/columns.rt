@@ -1,0 +1,160 @@
+//! A column: one list in one format, as its file.
+
+ghost use Rattle.std.specs.Prelude.{◌≡◌, ◌+◌, ◌*◌, ◌/◌, ◌%◌, ◌<◌, ◌≤◌, ℕ, List as Items, length, slice_index, take, drop, IfSome};
+ghost use Rattle.std.specs.Int.{from_le_bytes, w64};
+ghost use Rattle.definitions.specs.Blocks.{block_len, block_at};
+ghost use Rattle.definitions.specs.Columns.{max_rows};
+ghost use Rattle.definitions.specs.ColumnFiles.{BlockOf, IsColumnFile, IsIndexed, static_width_of};
+ghost use Rattle.block_core.specs.Formats.{format_of, tag_of};
+ghost use Rattle.column_core.specs.Columns.{shape};
+
+use crate::blocks::{decode_block, pick_value};
+use crate::encodings::Encoded;
+use crate::words::{push_words, word_at};
+use block_core::{BLOCK_LEN, Block, Format};
+use std::marker::Model;
+use stream_core::{Bytes, List};
+
+/// A list of at most 268,435,456 numbers in one format. It holds the column's file, and for each whole block where its
+/// spelling starts.
+#[derive(Drop)]
+pub struct Column {
+    encoded: Encoded,
+}
+
+impl Model for Column {
+    ghost use Rattle.std.specs.Prelude.{◌≡◌};
+    ghost use Rattle.definitions.specs.ColumnFiles.{static_width_of};
+    ghost use Rattle.block_core.specs.Formats.{format_of};
+    ghost use Rattle.column_core.specs.Columns.{Shape, shape};
+
+    ghost Value = { Shape };
+
+    ghost view = { λ column. shape column.encoded.format column.encoded.values };
+
+    ghost invariant = { λ column. column.encoded.width ≡ static_width_of (format_of column.encoded.format) column.encoded.values };
+}
+
+impl Column {
+    /// The column whose file the bytes are, and whose blocks start there. Nothing is read but the head.
+    pub fn adopt(bytes: Bytes, starts: List<u64>) -> Column
+        requires { (format : Format) × (values : Items ℕ)
+            × IsIndexed (format_of format) (static_width_of (format_of format) values) values bytes starts }
+        ensures { (format : Format) (values : Items ℕ) → IsColumnFile (format_of format) values bytes → result ≡ shape format values }
+    {
+        let format = format_in(bytes.as_slice());
+        let width = width_in(bytes.as_slice());
+        let count = count_in(bytes.as_slice());
+        Column {
+            encoded: Encoded::adopt(format, width, count, bytes.into_vec(), starts.into_vec()),
+        }
+    }
+
+    /// The column of an encoding whose width is the least.
+    pub(crate) fn from_encoded(encoded: Encoded) -> Column
+        requires { encoded.width ≡ static_width_of (format_of encoded.format) encoded.values }
+        ensures { result ≡ shape encoded.format encoded.values }
+    {
+        Column { encoded }
+    }
+
+    pub fn format(&self) -> Format
+        ensures { result ≡ self.now.format }
+    {
+        self.encoded.format()
+    }
+
+    /// How many values there are.
+    pub fn count(&self) -> u64
+        ensures count { result ≡ length self.now.values }
+        ensures few { length self.now.values ≤ max_rows }
+    {
+        self.encoded.count()
+    }
+
+    /// The width in the head: in the format `static` the least that holds every value of the whole blocks, and else 0.
+    pub fn static_width(&self) -> u8
+        ensures { result ≡ static_width_of (format_of self.now.format) self.now.values }
+    {
+        self.encoded.width()
+    }
+
+    /// The column's file.
+    pub fn encoded(&self) -> &[u8]
+        ensures { IsColumnFile (format_of self.now.format) self.now.values result.now }
+    {
+        self.encoded.bytes()
+    }
+
+    /// The spelling of a whole block.
+    pub fn block_bytes(&self, block: u64) -> &[u8]
+        requires { block < length self.now.values / block_len }
+        ensures { BlockOf (format_of self.now.format) (static_width_of (format_of self.now.format) self.now.values)
+            (block_at self.now.values block) result.now }
+    {
+        self.encoded.block_bytes(block)
+    }
+
+    /// A value after the last whole block, by its place there.
+    pub fn tail_value(&self, place: u64) -> u64
+        requires { place < length self.now.values % block_len }
+        ensures { result ≡ slice_index self.now.values (length self.now.values / block_len * block_len + place) }
+    {
+        word_at(self.encoded.tail_bytes(), place as usize)
+    }
+
+    /// Leaves the values of a block in `into`, the last of which may be the tail.
+    pub(crate) fn read_block<const L: usize>(&self, number: u64, into: &mut Block)
+        requires { number * block_len < length self.now.values }
+        ensures { into.new ≡ block_at self.now.values number }
+    {
+        if number < self.whole_blocks() {
+            let bytes = self.block_bytes(number);
+            decode_block::<L>(self.format(), self.static_width(), bytes, into);
+        } else {
+            into.clear();
+            push_words(self.encoded.tail_bytes(), into);
+        }
+    }
+
+    /// A value of a whole block, without opening the block, in the formats where that is cheap.
+    pub(crate) fn pick(&self, number: u64, place: u64) -> Option<u64>
+        requires whole { number < length self.now.values / block_len }
+        requires within { place < block_len }
+        ensures { IfSome result (λ value. value ≡ slice_index (block_at self.now.values number) place) }
+    {
+        pick_value(self.format(), self.static_width(), self.block_bytes(number), place as usize)
+    }
+
+    /// How many whole blocks there are.
+    pub(crate) fn whole_blocks(&self) -> u64
+        ensures { result ≡ length self.now.values / block_len }
+    {
+        self.count() / BLOCK_LEN as u64
+    }
+}
+
+/// The format that a file's head names.
+fn format_in(head: &[u8]) -> Format
+    requires { (format : Format) × (slice_index head.now 5 ≡ tag_of format) × (5 < length head.now) }
+    ensures { (format : Format) → slice_index head.now 5 ≡ tag_of format → result ≡ format }
+{
+    Format::from_tag(head[5]).unwrap()
+}
+
+/// The width in a file's head.
+fn width_in(head: &[u8]) -> u8
+    requires { 6 < length head.now }
+    ensures { result ≡ slice_index head.now 6 }
+{
+    head[6]
+}
+
+/// How many values a file's head tells of.
+fn count_in(head: &[u8]) -> u64
+    requires { 16 ≤ length head.now }
+    ensures { result ≡ from_le_bytes w64 (take 8 (drop 8 head.now)) }
+{
+    let (words, _) = head.as_chunks::<8>();
+    u64::from_le_bytes(words[1])
+}

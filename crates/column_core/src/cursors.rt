@@ -1,0 +1,32 @@
+//! A column read a block at a time.
+
+ghost use Rattle.std.specs.Prelude.{◌≡◌};
+
+use crate::columns::Column;
+use block_core::{Block, BlockSource, Steps};
+
+/// Reads a column's blocks, straight into the block that is lent. The lane width changes no value.
+pub struct Cursor<'a, const L: usize> {
+    column: &'a Column,
+}
+
+impl<'a, const L: usize> Cursor<'a, L> {
+    pub fn new(column: &'a Column) -> Cursor<'a, L>
+        ensures { result.column.now ≡ column.entry.now }
+    {
+        Cursor { column }
+    }
+}
+
+impl<'a, const L: usize> BlockSource for Cursor<'a, L> {
+    ghost list = { λ cursor. cursor.column.now.values };
+
+    fn count(&self) -> u64 {
+        self.column.count()
+    }
+
+    fn block<G>(&mut self, number: u64, into: &mut Block, steps: &mut Steps<G>) {
+        steps.tick();
+        self.column.read_block::<L>(number, into);
+    }
+}

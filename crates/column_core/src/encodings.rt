@@ -1,0 +1,263 @@
+//! A list in one format as the bytes of a file, which grow by whole blocks.
+
+ghost use Rattle.std.specs.Prelude.{◌≡◌, ◌+◌, ◌*◌, ◌/◌, ◌%◌, ◌<◌, ◌≤◌, ◌++◌, ◌∷◌, [], ℕ, List as Items, length, take, drop, ◌-◌, OnOk, OnErr, IfOk};
+ghost use Rattle.std.specs.List.{AllByRecursion};
+ghost use Rattle.definitions.specs.Blocks.{block_len, block_at, IsFull};
+ghost use Rattle.definitions.specs.Columns.{IsWord, max_rows, column_head, words_of};
+ghost use Rattle.definitions.specs.ColumnFiles as columns;
+ghost use Rattle.definitions.specs.ColumnFiles.{BlockOf, IsColumnWidth, FitsFormat, IsEncoded, IsIndexed};
+ghost use Rattle.definitions.proofs.PieceLaws.{with_count};
+ghost use Rattle.block_core.specs.Formats.{format_of, tag_of};
+ghost use Rattle.column_core.specs.Columns.{encoding, Spelled, Spelled-prop};
+
+use crate::blocks::append_block;
+use crate::words::{append_words, word_bytes_of};
+use block_core::{BLOCK_LEN, Block, Format};
+use std::alloc::{AllocError, Global};
+use std::marker::Model;
+
+/// How many bytes stand before the first block.
+const HEAD_LEN: usize = 16;
+
+/// Where the head says how many values there are.
+const COUNT_AT: usize = 8;
+
+/// A list in one format, as the file that spells it, at a width that need not be the least yet. Beside the bytes it keeps
+/// where each whole block starts: 8 bytes a block.
+#[derive(Drop)]
+pub struct Encoded {
+    format: Format,
+    width: u8,
+    count: u64,
+    bytes: Vec<u8>,
+    starts: Vec<u64>,
+    ghost stored: { Spelled format width bytes.items } by { Spelled-prop format width bytes.items },
+}
+
+impl Model for Encoded {
+    ghost use Rattle.std.specs.Prelude.{◌≡◌, length};
+    ghost use Rattle.definitions.specs.ColumnFiles.{IsIndexed};
+    ghost use Rattle.block_core.specs.Formats.{format_of};
+    ghost use Rattle.column_core.specs.Columns.{Encoding};
+
+    ghost Value = { Encoding };
+
+    ghost view = { λ encoded. record { format = encoded.format; width = encoded.width; values = encoded.stored.0 } };
+
+    ghost invariant = { λ encoded. (encoded.count ≡ length encoded.stored.0)
+        × IsIndexed (format_of encoded.format) encoded.width encoded.stored.0 encoded.bytes.items encoded.starts.items };
+}
+
+impl Encoded {
+    /// The file of no values.
+    pub fn new(alloc: Global, format: Format, width: u8) -> Result<Encoded, AllocError>
+        ensures { IfOk result (λ encoded. encoded ≡ encoding format width []) }
+    {
+        let mut bytes = Vec::with_capacity(alloc, HEAD_LEN)?;
+        bytes.extend_from_slice(&head_of(format, width))?;
+        Ok(Encoded {
+            format,
+            width,
+            count: 0,
+            bytes,
+            starts: Vec::new(alloc),
+        })
+    }
+
+    /// The file that the bytes are, whose blocks start there.
+    pub fn adopt(
+        format: Format,
+        width: u8,
+        count: u64,
+        bytes: Vec<u8>,
+        starts: Vec<u64>,
+    ) -> Encoded
+        requires { (values : Items ℕ) × (count ≡ length values) × IsIndexed (format_of format) width values bytes.items starts.items }
+        ensures { (values : Items ℕ) → IsEncoded (format_of format) width values bytes.items →
+            result ≡ encoding format width values }
+    {
+        Encoded {
+            format,
+            width,
+            count,
+            bytes,
+            starts,
+        }
+    }
+
+    pub fn format(&self) -> Format
+        ensures { result ≡ self.now.format }
+    {
+        self.format
+    }
+
+    pub fn width(&self) -> u8
+        ensures { result ≡ self.now.width }
+    {
+        self.width
+    }
+
+    pub fn count(&self) -> u64
+        ensures count { result ≡ length self.now.values }
+        ensures few { length self.now.values ≤ max_rows }
+    {
+        self.count
+    }
+
+    /// The whole file.
+    pub fn bytes(&self) -> &[u8]
+        ensures { IsEncoded (format_of self.now.format) self.now.width self.now.values result.now }
+    {
+        self.bytes.as_slice()
+    }
+
+    /// The spelling of a whole block.
+    pub fn block_bytes(&self, block: u64) -> &[u8]
+        requires { block < length self.now.values / block_len }
+        ensures { BlockOf (format_of self.now.format) self.now.width (block_at self.now.values block) result.now }
+    {
+        block_part(
+            self.bytes.as_slice(),
+            self.starts.as_slice(),
+            block as usize,
+            tail_size(self.count),
+        )
+    }
+
+    /// The words of the values after the last whole block.
+    pub fn tail_bytes(&self) -> &[u8]
+        ensures bytes { result.now ≡ words_of (block_at self.now.values (length self.now.values / block_len)) }
+        ensures words { AllByRecursion IsWord (block_at self.now.values (length self.now.values / block_len)) }
+        ensures few { length (block_at self.now.values (length self.now.values / block_len)) ≡ length self.now.values % block_len }
+    {
+        tail_part(self.bytes.as_slice(), tail_size(self.count))
+    }
+
+    /// Appends a whole block to whole blocks. An `Err` changes nothing.
+    pub fn push_block(&mut self, full: &Block) -> Result<(), AllocError>
+        requires whole { length self.old.values % block_len ≡ 0 }
+        requires few { length self.old.values + block_len ≤ max_rows }
+        requires lawful { IsColumnWidth (format_of self.old.format) self.old.width }
+        requires full { IsFull full.now }
+        requires fits { FitsFormat (format_of self.old.format) self.old.width full.now }
+        ensures ok { OnOk result (self.new ≡ encoding self.old.format self.old.width (self.old.values ++ full.now)) }
+        ensures err { OnErr result (self.new ≡ self.old) }
+    {
+        let count = self.count + BLOCK_LEN as u64;
+        grow(self.format, self.width, full, count, &mut self.bytes, &mut self.starts)?;
+        self.count = count;
+        Ok(())
+    }
+
+    /// Appends the values after the last whole block. An `Err` changes nothing.
+    pub fn push_tail(&mut self, tail: &[u64]) -> Result<(), AllocError>
+        requires whole { length self.old.values % block_len ≡ 0 }
+        requires few { length self.old.values + length tail.now ≤ max_rows }
+        requires short { length tail.now < block_len }
+        ensures ok { OnOk result (self.new ≡ encoding self.old.format self.old.width (self.old.values ++ tail.now)) }
+        ensures err { OnErr result (self.new ≡ self.old) }
+    {
+        let count = self.count + tail.len() as u64;
+        finish(tail, count, &mut self.bytes)?;
+        self.count = count;
+        Ok(())
+    }
+}
+
+/// Appends a block's spelling and where it starts, and writes the count into the head.
+fn grow(
+    format: Format,
+    width: u8,
+    full: &Block,
+    count: u64,
+    bytes: &mut Vec<u8>,
+    starts: &mut Vec<u64>,
+) -> Result<(), AllocError>
+    requires head { 16 ≤ length bytes.old.items }
+    requires spelled { (spelling : Items ℕ) × BlockOf (format_of format) width full.now spelling }
+    ensures bytes { OnOk result ((spelling : Items ℕ) × BlockOf (format_of format) width full.now spelling
+        × (bytes.new.items ≡ with_count count (bytes.old.items ++ spelling))) }
+    ensures starts { OnOk result (starts.new.items ≡ starts.old.items ++ length bytes.old.items ∷ []) }
+    ensures bytes_kept { OnErr result (bytes.new.items ≡ bytes.old.items) }
+    ensures starts_kept { OnErr result (starts.new.items ≡ starts.old.items) }
+{
+    starts.push(bytes.len() as u64)?;
+    match append_block(format, width, full, bytes) {
+        Ok(()) => {
+            set_count(bytes, count);
+            Ok(())
+        }
+        Err(refused) => {
+            starts.truncate(starts.len() - 1);
+            Err(refused)
+        }
+    }
+}
+
+/// Appends the words of the values after the last whole block, and writes the count into the head.
+fn finish(tail: &[u64], count: u64, bytes: &mut Vec<u8>) -> Result<(), AllocError>
+    requires { 16 ≤ length bytes.old.items }
+    ensures ok { OnOk result (bytes.new.items ≡ with_count count (bytes.old.items ++ words_of tail.now)) }
+    ensures err { OnErr result (bytes.new.items ≡ bytes.old.items) }
+{
+    append_words(bytes, tail)?;
+    set_count(bytes, count);
+    Ok(())
+}
+
+/// The spelling of a whole block, which ends where the next one starts or the tail of so many bytes.
+fn block_part<'a>(bytes: &'a [u8], starts: &[u64], block: usize, tail: usize) -> &'a [u8]
+    requires { (format : columns.Format) × (width : ℕ) × (values : Items ℕ) × IsIndexed format width values bytes.now starts.now
+        × (block < length values / block_len) × (tail ≡ 8 * (length values % block_len)) }
+    ensures { (format : columns.Format) (width : ℕ) (values : Items ℕ) → IsIndexed format width values bytes.now starts.now →
+        BlockOf format width (block_at values block) result.now }
+{
+    let start = starts[block] as usize;
+    let end = if block + 1 < starts.len() {
+        starts[block + 1] as usize
+    } else {
+        bytes.len() - tail
+    };
+    part(bytes, start, end)
+}
+
+/// The last bytes of a file.
+fn tail_part(bytes: &[u8], tail: usize) -> &[u8]
+    requires { tail ≤ length bytes.now }
+    ensures { result.now ≡ drop (length bytes.now - tail) bytes.now }
+{
+    &bytes[bytes.len() - tail..]
+}
+
+fn part(bytes: &[u8], start: usize, end: usize) -> &[u8]
+    requires forward { start ≤ end }
+    requires within { end ≤ length bytes.now }
+    ensures { result.now ≡ take (end - start) (drop start bytes.now) }
+{
+    &bytes[start..end]
+}
+
+/// How many bytes the values after the last whole block take.
+fn tail_size(count: u64) -> usize
+    ensures { result ≡ 8 * (count % block_len) }
+{
+    8 * (count as usize % BLOCK_LEN)
+}
+
+/// The head of a file without values.
+fn head_of(format: Format, width: u8) -> [u8; 16]
+    ensures { result ≡ column_head (tag_of format) width 0 }
+{
+    let mut head = *b"MCOL\x01\0\0\0\0\0\0\0\0\0\0\0";
+    head[5] = format.tag();
+    head[6] = width;
+    head
+}
+
+/// Writes how many values there are into the head.
+fn set_count(bytes: &mut Vec<u8>, count: u64)
+    requires { 16 ≤ length bytes.old.items }
+    ensures { bytes.new.items ≡ with_count count bytes.old.items }
+{
+    bytes[COUNT_AT..HEAD_LEN].copy_from_slice(&word_bytes_of(count));
+}

@@ -1,0 +1,101 @@
+//! A column of which values are looked up by their places.
+
+ghost use Rattle.std.specs.Prelude.{◌≡◌, ◌/◌, ◌<◌, length, slice_index};
+ghost use Rattle.definitions.specs.Blocks.{block_len, block_at};
+
+use crate::columns::Column;
+use block_core::{BLOCK_LEN, Block, PlaceSource, Steps};
+use std::marker::Model;
+
+/// How many values are picked from a block before it is decoded. To decode one costs about as much as so many picks.
+const MAX_PICKS: u64 = 64;
+
+/// Looks values of a column up by their places, in any order. It holds one block. While places stay in a block that is
+/// decoded it is decoded once; where a value can be picked from the bytes, a block is decoded only once many were.
+pub struct Gather<'a, const L: usize> {
+    column: &'a Column,
+    block: Block,
+    held: u64,
+    picked: u64,
+    picks: u64,
+}
+
+impl<'a, const L: usize> Model for Gather<'a, L> {
+    ghost use Rattle.std.specs.Prelude.{◌≡◌, ◌/◌, ◌<◌, List, ℕ, length};
+    ghost use Rattle.definitions.specs.Blocks.{block_len, block_at};
+
+    ghost Value = { List ℕ };
+
+    ghost view = { λ gather. gather.column.now.values };
+
+    ghost invariant = { λ gather. gather.held < length gather.column.now.values / block_len →
+        gather.block ≡ block_at gather.column.now.values gather.held };
+}
+
+impl<'a, const L: usize> Gather<'a, L> {
+    pub fn new(column: &'a Column) -> Gather<'a, L>
+        ensures { result ≡ column.entry.now.values }
+    {
+        Gather {
+            column,
+            block: Block::new(),
+            held: column.whole_blocks(),
+            picked: 0,
+            picks: 0,
+        }
+    }
+
+    /// The value at a place of the block of this number.
+    fn value_in(&mut self, number: u64, place: u64) -> u64
+        requires whole { number < length self.old / block_len }
+        requires within { place < block_len }
+        ensures value { result ≡ slice_index (block_at self.old number) place }
+        ensures list { self.new ≡ self.old }
+    {
+        if self.held == number {
+            return self.block.as_slice()[place as usize];
+        }
+        if self.may_pick(number) {
+            if let Some(value) = self.column.pick(number, place) {
+                return value;
+            }
+        }
+        self.column.read_block::<L>(number, &mut self.block);
+        self.held = number;
+        self.block.as_slice()[place as usize]
+    }
+
+    /// Counts one more pick from a block, unless there were too many.
+    fn may_pick(&mut self, number: u64) -> bool
+        ensures { self.new ≡ self.old }
+    {
+        if self.picked != number {
+            self.picked = number;
+            self.picks = 0;
+        }
+        if self.picks >= MAX_PICKS {
+            return false;
+        }
+        self.picks += 1;
+        true
+    }
+}
+
+impl<'a, const L: usize> PlaceSource for Gather<'a, L> {
+    ghost list = { λ gather. gather };
+
+    fn count(&self) -> u64 {
+        self.column.count()
+    }
+
+    fn value_at<G>(&mut self, place: u64, steps: &mut Steps<G>) -> u64 {
+        steps.tick();
+        let number = place / BLOCK_LEN as u64;
+        let offset = place % BLOCK_LEN as u64;
+        if number < self.column.whole_blocks() {
+            self.value_in(number, offset)
+        } else {
+            self.column.tail_value(offset)
+        }
+    }
+}
