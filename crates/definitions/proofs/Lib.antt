@@ -8,5 +8,6 @@ pub mod RunLaws
 pub mod BlockLaws
 pub mod ColumnFileLaws
 pub mod PieceLaws
+pub mod FaultLaws
 pub mod SumLaws
 pub mod WorkedExamples

@@ -14,7 +14,7 @@ pub length-starts_from : (place : ℕ) (pieces : List Piece) → length (starts_
 length-starts_from place [] = refl
 length-starts_from place (piece ∷ pieces) = ap suc (length-starts_from (place + length piece.spelling) pieces)
 
-drop_past : (a b : List ℕ) (n : ℕ) → drop (length a + n) (a ++ b) ≡ drop n b
+pub drop_past : (a b : List ℕ) (n : ℕ) → drop (length a + n) (a ++ b) ≡ drop n b
 drop_past a b n = sym (drop-drop n (length a) (a ++ b)) ∙ ap (drop n) (drop-append_seam a b)
 
 -- the piece of this number, its place among the bytes of all, and its values among those of all
@@ -198,11 +198,11 @@ with_count-head tag width before count body =
     let rest : drop 8 (word_bytes before ++ body) ≡ body = drop_at (word_bytes before) body 8 (length-word_bytes before) in
     ap (λ l. column_head tag width count ++ l) rest
 
-piece_values-push : (pieces : List Piece) (piece : Piece) → piece_values (pieces ++ piece ∷ []) ≡ piece_values pieces ++ piece.values
+pub piece_values-push : (pieces : List Piece) (piece : Piece) → piece_values (pieces ++ piece ∷ []) ≡ piece_values pieces ++ piece.values
 piece_values-push [] piece = append-nil piece.values
 piece_values-push (other ∷ pieces) piece = ap (λ l. other.values ++ l) (piece_values-push pieces piece) ∙ sym (append_assoc other.values (piece_values pieces) piece.values)
 
-piece_bytes-push : (pieces : List Piece) (piece : Piece) → piece_bytes (pieces ++ piece ∷ []) ≡ piece_bytes pieces ++ piece.spelling
+pub piece_bytes-push : (pieces : List Piece) (piece : Piece) → piece_bytes (pieces ++ piece ∷ []) ≡ piece_bytes pieces ++ piece.spelling
 piece_bytes-push [] piece = append-nil piece.spelling
 piece_bytes-push (other ∷ pieces) piece = ap (λ l. other.spelling ++ l) (piece_bytes-push pieces piece) ∙ sym (append_assoc other.spelling (piece_bytes pieces) piece.spelling)
 
@@ -210,7 +210,7 @@ pub ArePieces-push : (format : Format) (width : ℕ) (pieces : List Piece) (piec
 ArePieces-push format width [] piece are is = (is, tt)
 ArePieces-push format width (other ∷ pieces) piece are is = (are.0, ArePieces-push format width pieces piece are.1 is)
 
-starts_from-push : (place : ℕ) (pieces : List Piece) (piece : Piece) → starts_from place (pieces ++ piece ∷ []) ≡ starts_from place pieces ++ (place + length (piece_bytes pieces)) ∷ []
+pub starts_from-push : (place : ℕ) (pieces : List Piece) (piece : Piece) → starts_from place (pieces ++ piece ∷ []) ≡ starts_from place pieces ++ (place + length (piece_bytes pieces)) ∷ []
 starts_from-push place [] piece = let e : place ≡ place + 0 = omega arith in ap (λ n. n ∷ []) e
 starts_from-push place (other ∷ pieces) piece =
     let e : place + length other.spelling + length (piece_bytes pieces) ≡ place + length (piece_bytes (other ∷ pieces)) = omega (arith, length-append other.spelling (piece_bytes pieces)) in

@@ -1,8 +1,8 @@
 -- The formats, and the one file that a column has in each.
-use Rattle.std.specs.Prelude.{◌≡◌, ℕ, ◌+◌, ◌*◌, ◌/◌, ◌<◌, ◌≤◌, Bool, true, List, [], ◌∷◌, ◌++◌, length, take, flat_map}
+use Rattle.std.specs.Prelude.{◌≡◌, ◌≢◌, ℕ, ◌+◌, ◌*◌, ◌/◌, ◌%◌, ◌<◌, ◌≤◌, Bool, true, List, [], ◌∷◌, ◌++◌, length, take, flat_map}
 use Rattle.std.specs.List.{AllByRecursion}
 use Rattle.definitions.specs.Blocks.{block_len}
-use Rattle.definitions.specs.Columns.{IsColumn, column_head, words_of}
+use Rattle.definitions.specs.Columns.{max_rows, IsColumn, column_head, words_of}
 use Rattle.definitions.specs.Packed.{AreBelow, IsPacked}
 use Rattle.definitions.specs.Spellings.{fits_width, width_of, IsPlainBlock, IsDynamicBlock, IsCascade}
 use Rattle.definitions.specs.Differences.{first_of, delta1_of, delta16_of, least_of, reference_of}
@@ -145,3 +145,50 @@ pub record BeginsWith (spells : List ℕ → List ℕ → Type 0) (bytes : List 
 -- so many bytes at the front are a block
 abbrev pub BeginsWithBlock : Format → ℕ → List ℕ → ℕ → Type 0
 BeginsWithBlock format width bytes count = BeginsWith (BlockOf format width) bytes count
+
+-- a head that some column's file could have: the format, the width and the count
+pub record IsHead (format : Format) (width count : ℕ) : Type 0 where
+  pub lawful : IsColumnWidth format width
+  pub few : count ≤ max_rows
+
+-- bytes that begin with a head and some blocks, and what follows them
+pub record Opening (bytes : List ℕ) : Type 0 where
+  pub format : Format
+  pub width : ℕ
+  pub count : ℕ
+  pub head : IsHead format width count
+  pub pieces : List Piece
+  pub blocks : ArePieces format width pieces
+  pub rest : List ℕ
+  pub bytes_are : bytes ≡ column_head (tag_of format) width count ++ (piece_bytes pieces ++ rest)
+
+-- why bytes are no column file: there is no head; from this block on, which the head says to be there, no block follows; the
+-- width in the head is not the least; the rest is not as long as the tail
+pub data Fault : Type 0 where
+  bad_header : Fault
+  bad_block : ℕ → Fault
+  bad_width : Fault
+  bad_tail : Fault
+
+-- so many blocks are good, and the next one is none
+pub record StopsAt (bytes : List ℕ) (block : ℕ) : Type 0 where
+  pub opening : Opening bytes
+  pub good : length opening.pieces ≡ block
+  pub more : block < opening.count / block_len
+  pub stops : LacksBlock opening.format opening.width opening.rest
+
+-- all blocks are good
+pub record HasBlocks (bytes : List ℕ) : Type 0 where
+  pub opening : Opening bytes
+  pub all : length opening.pieces ≡ opening.count / block_len
+
+-- the width that the good blocks ask for
+abbrev pub asked_width : {bytes : List ℕ} → Opening bytes → ℕ
+asked_width opening = static_width_of opening.format (piece_values opening.pieces)
+
+-- the first fault of the bytes is this one
+abbrev pub HasFault : List ℕ → Fault → Type 0
+HasFault bytes bad_header = Opening bytes → ⊥
+HasFault bytes (bad_block block) = StopsAt bytes block
+HasFault bytes bad_width = (has : HasBlocks bytes) × (has.opening.width ≢ asked_width has.opening)
+HasFault bytes bad_tail = (has : HasBlocks bytes) × (has.opening.width ≡ asked_width has.opening) × (length has.opening.rest ≢ 8 * (has.opening.count % block_len))

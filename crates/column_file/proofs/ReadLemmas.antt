@@ -1,0 +1,150 @@
+-- How a reader goes on by a block.
+use Rattle.std.proofs.Common.{◌≡◌, ℕ, zero, suc, ◌+◌, ◌-◌, ◌*◌, ◌/◌, ◌%◌, ◌^◌, ◌<◌, ◌≤◌, max, List, [], ◌∷◌, ◌++◌, length, take, drop, get_or, IfSome, refl, sym, ap, ap₂, ◌∙◌, subst, arith, length-append, append_assoc}
+use Rattle.std.proofs.lemmas.List.{take-append-drop, drop-drop, length-take, length-drop, append-nil}
+use Rattle.definitions.specs.Blocks.{block_len}
+use Rattle.definitions.specs.Columns.{column_head}
+use Rattle.definitions.specs.Packed.{IsPacked, IsWidth}
+use Rattle.definitions.specs.Spellings.{width_of}
+use Rattle.definitions.specs.ColumnFiles.{Format, plain, static, dynamic, runs, delta1_dynamic, delta16_dynamic, reference_dynamic, delta1_runs, whole_blocks, tag_of, BlockOf, BeginsWith, BeginsWithBlock, LacksBlock, Piece, ArePieces, piece_values, piece_bytes, starts_from, head_len, static_width_of, IsHead, Opening, StopsAt, HasBlocks, Fault, bad_header, bad_block, bad_width, bad_tail, HasFault, IsColumnFile, IsIndexed}
+use Rattle.definitions.proofs.SpellingLaws.{width_of-is, drop-octet}
+use Rattle.definitions.proofs.BlockLaws.{BlockOf-full}
+use Rattle.definitions.proofs.ColumnFileLaws.{length-piece_values}
+use Rattle.definitions.proofs.PieceLaws.{ArePieces-push, piece_values-push, piece_bytes-push, starts_from-push}
+use Rattle.definitions.proofs.FaultLaws.{next_width, static_width_of-push, pieces_words, opening_values, file_of_opening, HasFault-none, HasFault-one}
+use Rattle.column_file.specs.Reading.{BeginsWithHead, ReadSo}
+use Rattle.column_file.specs.Faults.{fault_of, Says}
+use Rattle.column_file.specs.declared.reading.ColumnError.{ColumnError}
+use Rattle.column_file.specs.declared.reading.ColumnError.TheVariants as error
+
+take_nil : (n : ℕ) → take {A = ℕ} n [] ≡ []
+take_nil zero = refl
+take_nil (suc n) = refl
+
+empty_width : (format : Format) → 0 ≡ static_width_of format []
+empty_width plain = refl
+empty_width static =
+    let none : whole_blocks [] ≡ [] = take_nil (length {A = ℕ} [] / block_len * block_len) in
+    sym (ap width_of none ∙ width_of-is 0 [] (record { holds = λ i within. absurd (omega arith); least = λ other small. omega arith }) (omega arith))
+empty_width dynamic = refl
+empty_width runs = refl
+empty_width delta1_dynamic = refl
+empty_width delta16_dynamic = refl
+empty_width reference_dynamic = refl
+empty_width delta1_runs = refl
+
+-- nothing was read
+pub read_none : (format : Format) (width count : ℕ) (bytes starts : List ℕ) → BeginsWithHead format width count bytes → starts ≡ [] → ReadSo format width count 0 16 0 bytes starts
+read_none format width count bytes starts begins none = record {
+  pieces = [];
+  blocks = tt;
+  many = refl;
+  place_is = refl;
+  within = begins.within;
+  bytes_are = begins.bytes_are;
+  starts_are = none;
+  widest_is = empty_width format;
+}
+
+-- the next block is none
+pub stops_here : (format : Format) (width count number place widest : ℕ) (bytes starts : List ℕ) → IsHead format width count → ReadSo format width count number place widest bytes starts
+    → number < count / block_len → LacksBlock format width (drop place bytes) → StopsAt bytes number
+stops_here format width count number place widest bytes starts head so more none = record {
+  opening = record {
+    format = format;
+    width = width;
+    count = count;
+    head = head;
+    pieces = so.pieces;
+    blocks = so.blocks;
+    rest = drop place bytes;
+    bytes_are = so.bytes_are;
+  };
+  good = so.many;
+  more = more;
+  stops = none;
+}
+
+-- one block more
+pub read_more : (format : Format) (width count number place widest len wider : ℕ) (bytes starts begun values : List ℕ) → ReadSo format width count number place widest bytes starts
+    → BlockOf format width values (take len (drop place bytes)) → len ≤ length (drop place bytes) → wider ≡ next_width format widest values → begun ≡ starts ++ place ∷ []
+    → ReadSo format width count (number + 1) (place + len) wider bytes begun
+read_more format width count number place widest len wider bytes starts begun values so spelled inside widens begins =
+    let spelling = take len (drop place bytes) in
+    let piece : Piece = record { values = values; spelling = spelling } in
+    let full = BlockOf-full format width values spelling spelled in
+    let size : length spelling ≡ len = omega (arith, length-take len (drop place bytes)) in
+    let rest : spelling ++ drop (place + len) bytes ≡ drop place bytes = ap (λ l. spelling ++ l) (sym (drop-drop len place bytes)) ∙ take-append-drop len (drop place bytes) in
+    let many : length (so.pieces ++ piece ∷ []) ≡ number + 1 = omega (arith, length-append so.pieces (piece ∷ []), so.many) in
+    let here : place ≡ head_len + length (piece_bytes so.pieces) = so.place_is in
+    record {
+      pieces = so.pieces ++ piece ∷ [];
+      blocks = ArePieces-push format width so.pieces piece so.blocks spelled;
+      many = many;
+      place_is = omega (arith, here, size, ap length (piece_bytes-push so.pieces piece), length-append (piece_bytes so.pieces) spelling);
+      within = omega (arith, length-drop place bytes, so.within);
+      bytes_are =
+          so.bytes_are
+          ∙ ap (λ (l : List ℕ). column_head (tag_of format) width count ++ l)
+              (ap (λ l. piece_bytes so.pieces ++ l) (sym rest) ∙ sym (append_assoc (piece_bytes so.pieces) spelling (drop (place + len) bytes)) ∙ ap (λ l. l ++ drop (place + len) bytes) (sym (piece_bytes-push so.pieces piece)));
+      starts_are = begins ∙ ap₂ (λ (l : List ℕ) (n : ℕ). l ++ n ∷ []) so.starts_are here ∙ sym (starts_from-push head_len so.pieces piece);
+      widest_is =
+          widens ∙ ap (λ n. next_width format n values) so.widest_is
+          ∙ sym (static_width_of-push format (piece_values so.pieces) values (omega (arith, length-piece_values format width so.pieces so.blocks)) full.whole (pieces_words format width so.pieces so.blocks) full.words)
+          ∙ ap (static_width_of format) (sym (piece_values-push so.pieces piece));
+    }
+
+-- the width of a packed block is no greater than the one that it is packed at
+pub packed_width : (width own : ℕ) (values : List ℕ) (bytes : List ℕ) → IsPacked width values bytes → IsWidth own values → own ≤ width
+packed_width width own values bytes packed is = is.least width packed.small
+
+-- all blocks that the head tells of were read
+pub has_blocks : (format : Format) (width count place widest : ℕ) (bytes starts : List ℕ) → IsHead format width count → (so : ReadSo format width count (count / block_len) place widest bytes starts) → HasBlocks bytes
+has_blocks format width count place widest bytes starts head so = record {
+  opening = record {
+    format = format;
+    width = width;
+    count = count;
+    head = head;
+    pieces = so.pieces;
+    blocks = so.blocks;
+    rest = drop place bytes;
+    bytes_are = so.bytes_are;
+  };
+  all = so.many;
+}
+
+pub wrong_width : (format : Format) (width count place widest : ℕ) (bytes starts : List ℕ) → IsHead format width count → ReadSo format width count (count / block_len) place widest bytes starts
+    → (widest ≡ width → ⊥) → HasFault bytes bad_width
+unfolding has_blocks
+wrong_width format width count place widest bytes starts head so other =
+    (has_blocks format width count place widest bytes starts head so, λ same. other (so.widest_is ∙ sym same))
+
+pub wrong_tail : (format : Format) (width count place widest : ℕ) (bytes starts : List ℕ) → IsHead format width count → ReadSo format width count (count / block_len) place widest bytes starts
+    → widest ≡ width → (length bytes - place ≡ 8 * (count % block_len) → ⊥) → HasFault bytes bad_tail
+unfolding has_blocks
+wrong_tail format width count place widest bytes starts head so same other =
+    (has_blocks format width count place widest bytes starts head so, sym same ∙ so.widest_is, λ long. other (sym (length-drop place bytes) ∙ long))
+
+pub whole_file : (format : Format) (width count place widest : ℕ) (bytes starts : List ℕ) → IsHead format width count → ReadSo format width count (count / block_len) place widest bytes starts
+    → ((k : ℕ) → get_or bytes k 0 < 256) → widest ≡ width → length bytes - place ≡ 8 * (count % block_len)
+    → (values : List ℕ) × IsIndexed format (static_width_of format values) values bytes starts
+unfolding has_blocks
+whole_file format width count place widest bytes starts head so octets same long =
+    let has = has_blocks format width count place widest bytes starts head so in
+    (opening_values has.opening, file_of_opening bytes starts has so.starts_are (drop-octet place bytes octets) (sym same ∙ so.widest_is) (length-drop place bytes ∙ long))
+
+-- An error that names a fault of the bytes is the one of all of them, and no column has the bytes.
+
+pub no_column : (bytes : List ℕ) (given : ColumnError) → Says bytes given → (format : Format) (values : List ℕ) → IsColumnFile format values bytes → given ≡ error.Memory
+no_column bytes error.BadHeader says format values is = absurd (HasFault-none format values bytes bad_header is says)
+no_column bytes (error.BadBlock block) says format values is = absurd (HasFault-none format values bytes (bad_block block) is says)
+no_column bytes error.BadWidth says format values is = absurd (HasFault-none format values bytes bad_width is says)
+no_column bytes error.BadTail says format values is = absurd (HasFault-none format values bytes bad_tail is says)
+no_column bytes error.Memory says format values is = refl
+
+pub one_fault : (bytes : List ℕ) (given : ColumnError) → Says bytes given → (fault : Fault) → HasFault bytes fault → IfSome (fault_of given) (λ named. named ≡ fault)
+one_fault bytes error.BadHeader says fault has = HasFault-one bytes bad_header fault says has
+one_fault bytes (error.BadBlock block) says fault has = HasFault-one bytes (bad_block block) fault says has
+one_fault bytes error.BadWidth says fault has = HasFault-one bytes bad_width fault says has
+one_fault bytes error.BadTail says fault has = HasFault-one bytes bad_tail fault says has
+one_fault bytes error.Memory says fault has = tt
