@@ -6,6 +6,7 @@ use crate::columns::Column;
 use block_core::{Block, BlockSource, Steps};
 
 /// Reads a column's blocks, straight into the block that is lent. The lane width changes no value.
+#[derive(Drop)]
 pub struct Cursor<'a, const L: usize> {
     column: &'a Column,
 }

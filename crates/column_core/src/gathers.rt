@@ -12,6 +12,7 @@ const MAX_PICKS: u64 = 64;
 
 /// Looks values of a column up by their places, in any order. It holds one block. While places stay in a block that is
 /// decoded it is decoded once; where a value can be picked from the bytes, a block is decoded only once many were.
+#[derive(Drop)]
 pub struct Gather<'a, const L: usize> {
     column: &'a Column,
     block: Block,
