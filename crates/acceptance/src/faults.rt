@@ -73,6 +73,30 @@ fn a_failed_write_leaves_a_proper_prefix(rt: HostRuntime) -> Result<(), Fail> {
     Ok(())
 }
 
+/// Outputs with room for no byte to eight, over an answer of three bytes and over a fault's line of thirteen.
+#[test]
+fn an_output_of_little_room_takes_a_prefix(rt: HostRuntime) -> Result<(), Fail> {
+    let alloc = rt.alloc();
+    let words = [String::from_str(alloc, "query")?];
+    for (load, whole) in [(9, "90\n"), (0, "fault: store\n")] {
+        for room in 0..9usize {
+            let mut store = MemStore::new(alloc, numbers(alloc, &[load])?);
+            put_example(alloc, &mut store)?;
+            let mut input = source(alloc, TEXT)?;
+            let mut out = MemSink::new(alloc, room, List::from_vec(Vec::new(alloc)))?;
+            let found = run(alloc, &words, &mut store, &mut input, &mut out);
+            let answered = load == 9 && room >= whole.len();
+            assert_eq!(rt; found, if answered { 0 } else { 3 }, "room for {room}");
+            assert_eq!(rt; out.taken().len(), room.min(whole.len()));
+            assert!(rt;
+                whole.as_bytes().starts_with(out.taken()),
+                "room for {room}"
+            );
+        }
+    }
+    Ok(())
+}
+
 #[test]
 fn a_failed_load_and_a_failed_write_leave_a_part_of_the_line(rt: HostRuntime) -> Result<(), Fail> {
     let alloc = rt.alloc();

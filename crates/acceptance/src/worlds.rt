@@ -1,13 +1,36 @@
 //! A database in memory, and one command over it.
 
-use column_core::encode_plain;
+use block_core::Format;
+use column_core::encode_list;
 use engine_tool::run;
 use std::alloc::{AllocError, Global};
 use stream_core::{Bytes, List, MemSink, MemSource, MemStore};
 
+/// Every format, by its tag.
+pub const FORMATS: [Format; 8] = [
+    Format::Plain,
+    Format::Static,
+    Format::Dynamic,
+    Format::Runs,
+    Format::Delta1Dynamic,
+    Format::Delta16Dynamic,
+    Format::ReferenceDynamic,
+    Format::Delta1Runs,
+];
+
 /// The now file of slot `a` and so many rows, fewer than 256.
 pub fn now_file(rows: u8) -> [u8; 13] {
     [b'M', b'N', b'O', b'W', b'a', rows, 0, 0, 0, 0, 0, 0, 0]
+}
+
+/// How many values a column has at most.
+const MAX_ROWS: usize = 268_435_456;
+
+/// The bytes of the column file of these values, of as many as a column has at most.
+pub fn column_bytes(alloc: Global, values: &[u64], format: Format) -> Result<Vec<u8>, AllocError> {
+    let count = values.len().min(MAX_ROWS);
+    let column = encode_list(alloc, &values[..count], format)?;
+    Vec::from_slice(alloc, column.encoded())
 }
 
 /// The files of table `t` with five rows: `a` is 10, 20, 30, 40, 50 and `b` is 2, 3, 5, 7, 8. One of them may be left out.
@@ -16,11 +39,11 @@ fn put_example_but(alloc: Global, store: &mut MemStore, missing: &str) -> Result
         store.put(alloc, "t.now", &now_file(5))?;
     }
     if missing != "t.a.a.col" {
-        let a = encode_plain(alloc, &[10, 20, 30, 40, 50])?;
+        let a = column_bytes(alloc, &[10, 20, 30, 40, 50], Format::Plain)?;
         store.put(alloc, "t.a.a.col", a.as_slice())?;
     }
     if missing != "t.a.b.col" {
-        let b = encode_plain(alloc, &[2, 3, 5, 7, 8])?;
+        let b = column_bytes(alloc, &[2, 3, 5, 7, 8], Format::Plain)?;
         store.put(alloc, "t.a.b.col", b.as_slice())?;
     }
     Ok(())

@@ -7,29 +7,10 @@ use Rattle.definitions.specs.Columns.{word_bytes}
 use Rattle.definitions.specs.Blocks.{IsFull}
 use Rattle.definitions.specs.Spellings.{IsCascade}
 use Rattle.definitions.proofs.WordLaws.{length-word_bytes, from_le_bytes-word_bytes}
-use Rattle.definitions.proofs.PlainLaws.{same_front, same_rest}
+use Rattle.definitions.proofs.PrefixLaws.{same_front, same_rest}
 use Rattle.definitions.proofs.DifferenceLaws.{word_bytes-lt}
+use Rattle.definitions.proofs.BlockLaws.{same_word, same_inner, octets_append, fronts}
 use Rattle.block_core.specs.Laws.{IsPacking, IsTransform, IsSplit, NoBlock, BlockAt, IsBlock}
-
--- a word at the front is one, and what follows it
-same_word : (n m : ℕ) (a b : List ℕ) → n < 2 ^ 64 → m < 2 ^ 64 → word_bytes n ++ a ≡ word_bytes m ++ b → n ≡ m
-same_word n m a b p q e =
-    let front : word_bytes n ≡ word_bytes m = same_front (word_bytes n) (word_bytes m) a b (length-word_bytes n ∙ sym (length-word_bytes m)) e in
-    sym (from_le_bytes-word_bytes n p) ∙ ap (from_le_bytes w64) front ∙ from_le_bytes-word_bytes m q
-
-same_inner : (n m : ℕ) (a b : List ℕ) → word_bytes n ++ a ≡ word_bytes m ++ b → a ≡ b
-same_inner n m a b e = same_rest (word_bytes n) (word_bytes m) a b (length-word_bytes n ∙ sym (length-word_bytes m)) e
-
-octets_append : (a b : List ℕ) → ((i : ℕ) → get_or a i 0 < 256) → ((i : ℕ) → get_or b i 0 < 256) → (i : ℕ) → get_or (a ++ b) i 0 < 256
-octets_append a b p q i =
-    elim (cases_lt i (length a)) [
-      | inl early ↦ subst (λ n. n < 256) (sym (get_or_append_left a b 0 i early)) (p i)
-      | inr past ↦ subst (λ n. n < 256) (sym (get_or-append_right a b (length a) i 0 refl past)) (q (i - length a))
-    ]
-
--- bytes that begin with two spellings begin with one word
-fronts : (n m : ℕ) (a b x y : List ℕ) → (word_bytes n ++ a) ++ x ≡ (word_bytes m ++ b) ++ y → word_bytes n ++ (a ++ x) ≡ word_bytes m ++ (b ++ y)
-fronts n m a b x y e = sym (append_assoc (word_bytes n) a x) ∙ e ∙ append_assoc (word_bytes m) b y
 
 pub IsPacking-cascade : {Param Head : Type 0} (base_of : List ℕ → ℕ) (differences_of : List ℕ → List ℕ) (spells : Param → List ℕ → List ℕ → Type 0) (block_head : Param → List ℕ → Head)
     → IsTransform base_of differences_of → IsPacking spells block_head

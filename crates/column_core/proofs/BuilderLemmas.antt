@@ -13,9 +13,6 @@ use Rattle.definitions.proofs.DifferenceLaws.{words_from}
 abbrev pub whole_count : List ℕ → ℕ
 whole_count values = length values / block_len * block_len
 
-pub take_blocks : (n m : ℕ) (values : List ℕ) → take n values ++ take m (drop n values) ≡ take (n + m) values
-take_blocks n m values = ap₂ (λ (a : List ℕ) (b : List ℕ). a ++ b) (sym (take-take n (n + m) values (omega arith))) (sym (drop-take n m values)) ∙ take-append-drop n (take (n + m) values)
-
 whole_blocks-whole : (values : List ℕ) → whole_blocks (take (whole_count values) values) ≡ whole_blocks values
 whole_blocks-whole values =
     let all : length (take (whole_count values) values) / block_len * block_len ≡ whole_count values = omega (arith, length-take (whole_count values) values) in

@@ -51,12 +51,7 @@ pub fn block_len(format: Format, static_width: u8, full: &Block) -> usize
 }
 
 /// Writes the spelling of a block, which is as long as `into`.
-pub fn encode_block<const L: usize>(
-    format: Format,
-    static_width: u8,
-    full: &Block,
-    into: &mut [u8],
-)
+pub fn encode_block<const L: usize>(format: Format, static_width: u8, full: &Block, into: &mut [u8])
     requires { (bytes : List ℕ) × BlockOf (format_of format) static_width full.now bytes × (length into.old ≡ length bytes) }
     ensures { BlockOf (format_of format) static_width full.now into.new }
 {

@@ -123,7 +123,12 @@ impl Column {
         requires within { place < block_len }
         ensures { IfSome result (λ value. value ≡ slice_index (block_at self.now.values number) place) }
     {
-        pick_value(self.format(), self.static_width(), self.block_bytes(number), place as usize)
+        pick_value(
+            self.format(),
+            self.static_width(),
+            self.block_bytes(number),
+            place as usize,
+        )
     }
 
     /// How many whole blocks there are.

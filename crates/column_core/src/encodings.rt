@@ -65,13 +65,7 @@ impl Encoded {
     }
 
     /// The file that the bytes are, whose blocks start there.
-    pub fn adopt(
-        format: Format,
-        width: u8,
-        count: u64,
-        bytes: Vec<u8>,
-        starts: Vec<u64>,
-    ) -> Encoded
+    pub fn adopt(format: Format, width: u8, count: u64, bytes: Vec<u8>, starts: Vec<u64>) -> Encoded
         requires { (values : Items ℕ) × (count ≡ length values) × IsIndexed (format_of format) width values bytes.items starts.items }
         ensures { (values : Items ℕ) → IsEncoded (format_of format) width values bytes.items →
             result ≡ encoding format width values }
@@ -144,7 +138,14 @@ impl Encoded {
         ensures err { OnErr result (self.new ≡ self.old) }
     {
         let count = self.count + BLOCK_LEN as u64;
-        grow(self.format, self.width, full, count, &mut self.bytes, &mut self.starts)?;
+        grow(
+            self.format,
+            self.width,
+            full,
+            count,
+            &mut self.bytes,
+            &mut self.starts,
+        )?;
         self.count = count;
         Ok(())
     }

@@ -7,8 +7,11 @@ use crate::columns::Column;
 use block_core::{BLOCK_LEN, Block, PlaceSource, Steps};
 use std::marker::Model;
 
-/// How many values are picked from a block before it is decoded. To decode one costs about as much as so many picks.
-const MAX_PICKS: u64 = 64;
+/// To decode a block costs about as much as to pick one value of so many, if they are spread evenly.
+const SPARSE: u64 = 16;
+
+/// How many values are picked from a block at least before it is decoded.
+const MIN_PICKS: u64 = 8;
 
 /// Looks values of a column up by their places, in any order. It holds one block. While places stay in a block that is
 /// decoded it is decoded once; where a value can be picked from the bytes, a block is decoded only once many were.
@@ -22,14 +25,14 @@ pub struct Gather<'a, const L: usize> {
 }
 
 impl<'a, const L: usize> Model for Gather<'a, L> {
-    ghost use Rattle.std.specs.Prelude.{◌≡◌, ◌/◌, ◌<◌, List, ℕ, length};
+    ghost use Rattle.std.specs.Prelude.{◌≡◌, ◌*◌, ◌<◌, List, ℕ, length};
     ghost use Rattle.definitions.specs.Blocks.{block_len, block_at};
 
     ghost Value = { List ℕ };
 
     ghost view = { λ gather. gather.column.now.values };
 
-    ghost invariant = { λ gather. gather.held < length gather.column.now.values / block_len →
+    ghost invariant = { λ gather. gather.held * block_len < length gather.column.now.values →
         gather.block ≡ block_at gather.column.now.values gather.held };
 }
 
@@ -40,7 +43,8 @@ impl<'a, const L: usize> Gather<'a, L> {
         Gather {
             column,
             block: Block::new(),
-            held: column.whole_blocks(),
+            // the number of no block
+            held: column.count(),
             picked: 0,
             picks: 0,
         }
@@ -53,10 +57,7 @@ impl<'a, const L: usize> Gather<'a, L> {
         ensures value { result ≡ slice_index (block_at self.old number) place }
         ensures list { self.new ≡ self.old }
     {
-        if self.held == number {
-            return self.block.as_slice()[place as usize];
-        }
-        if self.may_pick(number) {
+        if self.may_pick(number, place) {
             if let Some(value) = self.column.pick(number, place) {
                 return value;
             }
@@ -66,15 +67,15 @@ impl<'a, const L: usize> Gather<'a, L> {
         self.block.as_slice()[place as usize]
     }
 
-    /// Counts one more pick from a block, unless there were too many.
-    fn may_pick(&mut self, number: u64) -> bool
+    /// Counts one more pick from a block, unless there were too many up to this place.
+    fn may_pick(&mut self, number: u64, place: u64) -> bool
         ensures { self.new ≡ self.old }
     {
         if self.picked != number {
             self.picked = number;
             self.picks = 0;
         }
-        if self.picks >= MAX_PICKS {
+        if self.picks >= MIN_PICKS && self.picks > place / SPARSE {
             return false;
         }
         self.picks += 1;
@@ -93,7 +94,9 @@ impl<'a, const L: usize> PlaceSource for Gather<'a, L> {
         steps.tick();
         let number = place / BLOCK_LEN as u64;
         let offset = place % BLOCK_LEN as u64;
-        if number < self.column.whole_blocks() {
+        if self.held == number {
+            self.block.as_slice()[offset as usize]
+        } else if number < self.column.whole_blocks() {
             self.value_in(number, offset)
         } else {
             self.column.tail_value(offset)

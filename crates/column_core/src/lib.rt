@@ -9,7 +9,6 @@ mod columns;
 mod cursors;
 mod encodings;
 mod gathers;
-mod plain;
 mod spellings;
 mod words;
 
@@ -18,4 +17,3 @@ pub use builders::{Builder, encode_list};
 pub use columns::Column;
 pub use cursors::Cursor;
 pub use gathers::Gather;
-pub use plain::{PlainError, encode_plain, read_plain};

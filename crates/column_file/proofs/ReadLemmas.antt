@@ -5,12 +5,12 @@ use Rattle.definitions.specs.Blocks.{block_len}
 use Rattle.definitions.specs.Columns.{column_head}
 use Rattle.definitions.specs.Packed.{IsPacked, IsWidth}
 use Rattle.definitions.specs.Spellings.{width_of}
-use Rattle.definitions.specs.ColumnFiles.{Format, plain, static, dynamic, runs, delta1_dynamic, delta16_dynamic, reference_dynamic, delta1_runs, whole_blocks, tag_of, BlockOf, BeginsWith, BeginsWithBlock, LacksBlock, Piece, ArePieces, piece_values, piece_bytes, starts_from, head_len, static_width_of, IsHead, Opening, StopsAt, HasBlocks, Fault, bad_header, bad_block, bad_width, bad_tail, HasFault, IsColumnFile, IsIndexed}
+use Rattle.definitions.specs.ColumnFiles.{Format, plain, static, dynamic, runs, delta1_dynamic, delta16_dynamic, reference_dynamic, delta1_runs, whole_blocks, tag_of, BlockOf, BeginsWith, BeginsWithBlock, LacksBlock, Piece, ArePieces, piece_values, piece_bytes, starts_from, head_len, static_width_of, IsHead, Opening, StopsAt, HasBlocks, FileFault, bad_header, bad_block, bad_width, bad_tail, HasFileFault, IsColumnFile, IsIndexed}
 use Rattle.definitions.proofs.SpellingLaws.{width_of-is, drop-octet}
 use Rattle.definitions.proofs.BlockLaws.{BlockOf-full}
 use Rattle.definitions.proofs.ColumnFileLaws.{length-piece_values}
 use Rattle.definitions.proofs.PieceLaws.{ArePieces-push, piece_values-push, piece_bytes-push, starts_from-push}
-use Rattle.definitions.proofs.FaultLaws.{next_width, static_width_of-push, pieces_words, opening_values, file_of_opening, HasFault-none, HasFault-one}
+use Rattle.definitions.proofs.FaultLaws.{next_width, static_width_of-push, pieces_words, opening_values, file_of_opening, HasFileFault-none, HasFileFault-one}
 use Rattle.column_file.specs.Reading.{BeginsWithHead, ReadSo}
 use Rattle.column_file.specs.Faults.{fault_of, Says}
 use Rattle.column_file.specs.declared.reading.ColumnError.{ColumnError}
@@ -85,7 +85,7 @@ read_more format width count number place widest len wider bytes starts begun va
       bytes_are =
           so.bytes_are
           ∙ ap (λ (l : List ℕ). column_head (tag_of format) width count ++ l)
-              (ap (λ l. piece_bytes so.pieces ++ l) (sym rest) ∙ sym (append_assoc (piece_bytes so.pieces) spelling (drop (place + len) bytes)) ∙ ap (λ l. l ++ drop (place + len) bytes) (sym (piece_bytes-push so.pieces piece)));
+          (ap (λ l. piece_bytes so.pieces ++ l) (sym rest) ∙ sym (append_assoc (piece_bytes so.pieces) spelling (drop (place + len) bytes)) ∙ ap (λ l. l ++ drop (place + len) bytes) (sym (piece_bytes-push so.pieces piece)));
       starts_are = begins ∙ ap₂ (λ (l : List ℕ) (n : ℕ). l ++ n ∷ []) so.starts_are here ∙ sym (starts_from-push head_len so.pieces piece);
       widest_is =
           widens ∙ ap (λ n. next_width format n values) so.widest_is
@@ -114,13 +114,13 @@ has_blocks format width count place widest bytes starts head so = record {
 }
 
 pub wrong_width : (format : Format) (width count place widest : ℕ) (bytes starts : List ℕ) → IsHead format width count → ReadSo format width count (count / block_len) place widest bytes starts
-    → (widest ≡ width → ⊥) → HasFault bytes bad_width
+    → (widest ≡ width → ⊥) → HasFileFault bytes bad_width
 unfolding has_blocks
 wrong_width format width count place widest bytes starts head so other =
     (has_blocks format width count place widest bytes starts head so, λ same. other (so.widest_is ∙ sym same))
 
 pub wrong_tail : (format : Format) (width count place widest : ℕ) (bytes starts : List ℕ) → IsHead format width count → ReadSo format width count (count / block_len) place widest bytes starts
-    → widest ≡ width → (length bytes - place ≡ 8 * (count % block_len) → ⊥) → HasFault bytes bad_tail
+    → widest ≡ width → (length bytes - place ≡ 8 * (count % block_len) → ⊥) → HasFileFault bytes bad_tail
 unfolding has_blocks
 wrong_tail format width count place widest bytes starts head so same other =
     (has_blocks format width count place widest bytes starts head so, sym same ∙ so.widest_is, λ long. other (sym (length-drop place bytes) ∙ long))
@@ -136,15 +136,15 @@ whole_file format width count place widest bytes starts head so octets same long
 -- An error that names a fault of the bytes is the one of all of them, and no column has the bytes.
 
 pub no_column : (bytes : List ℕ) (given : ColumnError) → Says bytes given → (format : Format) (values : List ℕ) → IsColumnFile format values bytes → given ≡ error.Memory
-no_column bytes error.BadHeader says format values is = absurd (HasFault-none format values bytes bad_header is says)
-no_column bytes (error.BadBlock block) says format values is = absurd (HasFault-none format values bytes (bad_block block) is says)
-no_column bytes error.BadWidth says format values is = absurd (HasFault-none format values bytes bad_width is says)
-no_column bytes error.BadTail says format values is = absurd (HasFault-none format values bytes bad_tail is says)
+no_column bytes error.BadHeader says format values is = absurd (HasFileFault-none format values bytes bad_header is says)
+no_column bytes (error.BadBlock block) says format values is = absurd (HasFileFault-none format values bytes (bad_block block) is says)
+no_column bytes error.BadWidth says format values is = absurd (HasFileFault-none format values bytes bad_width is says)
+no_column bytes error.BadTail says format values is = absurd (HasFileFault-none format values bytes bad_tail is says)
 no_column bytes error.Memory says format values is = refl
 
-pub one_fault : (bytes : List ℕ) (given : ColumnError) → Says bytes given → (fault : Fault) → HasFault bytes fault → IfSome (fault_of given) (λ named. named ≡ fault)
-one_fault bytes error.BadHeader says fault has = HasFault-one bytes bad_header fault says has
-one_fault bytes (error.BadBlock block) says fault has = HasFault-one bytes (bad_block block) fault says has
-one_fault bytes error.BadWidth says fault has = HasFault-one bytes bad_width fault says has
-one_fault bytes error.BadTail says fault has = HasFault-one bytes bad_tail fault says has
+pub one_fault : (bytes : List ℕ) (given : ColumnError) → Says bytes given → (fault : FileFault) → HasFileFault bytes fault → IfSome (fault_of given) (λ named. named ≡ fault)
+one_fault bytes error.BadHeader says fault has = HasFileFault-one bytes bad_header fault says has
+one_fault bytes (error.BadBlock block) says fault has = HasFileFault-one bytes (bad_block block) fault says has
+one_fault bytes error.BadWidth says fault has = HasFileFault-one bytes bad_width fault says has
+one_fault bytes error.BadTail says fault has = HasFileFault-one bytes bad_tail fault says has
 one_fault bytes error.Memory says fault has = tt

@@ -3,7 +3,7 @@
 ghost use Rattle.std.specs.Prelude.{◌≡◌, ◌≢◌, ◌+◌, ◌-◌, ◌*◌, ◌/◌, ◌%◌, ◌<◌, ◌≤◌, ◌++◌, ◌∷◌, ℕ, List as Items, [], max, length, take, drop, Option, Some, IfOk, IfErr, IfSome, OnOk, MatchResult};
 ghost use Rattle.definitions.specs.Blocks.{block_len};
 ghost use Rattle.definitions.specs.ColumnFiles as columns;
-ghost use Rattle.definitions.specs.ColumnFiles.{BlockOf, IsColumnFile, IsIndexed, static_width_of, Fault, HasFault};
+ghost use Rattle.definitions.specs.ColumnFiles.{BlockOf, IsColumnFile, IsIndexed, static_width_of, FileFault, HasFileFault};
 ghost use Rattle.definitions.specs.Packed.{IsPacked};
 ghost use Rattle.definitions.specs.Spellings.{width_of};
 ghost use Rattle.definitions.proofs.FaultLaws.{next_width};
@@ -53,7 +53,7 @@ pub fn read_column(alloc: Global, bytes: Bytes) -> Result<Column, ColumnError>
     // A file of a column is accepted as that column, and bytes with a fault are refused for it, unless memory runs out.
     ensures accepts { (format : Format) (values : Items ℕ) → IsColumnFile (format_of format) values bytes →
         MatchResult result (λ column. column ≡ shape format values) (λ error. error ≡ ColumnError.Memory) }
-    ensures refuses { (fault : Fault) → HasFault bytes fault →
+    ensures refuses { (fault : FileFault) → HasFileFault bytes fault →
         MatchResult result (λ _. ⊥) (λ error. IfSome (fault_of error) (λ named. named ≡ fault)) }
 {
     match starts_of(alloc, bytes.as_slice()) {

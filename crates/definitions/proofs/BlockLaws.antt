@@ -1,18 +1,17 @@
 -- In each format a full block has one spelling, and bytes begin with one block at most.
-use Rattle.std.proofs.Common.{◌≡◌, ℕ, ◌+◌, ◌-◌, ◌*◌, ◌^◌, ◌<◌, ◌≤◌, List, [], ◌∷◌, ◌++◌, length, take, drop, get_or, refl, sym, ap, ap₂, ◌∙◌, subst, inl, inr, arith, length-append, append_assoc}
+use Rattle.std.proofs.Common.{◌≡◌, ℕ, ◌-◌, ◌^◌, ◌<◌, ◌≤◌, List, [], ◌∷◌, ◌++◌, length, take, get_or, refl, sym, ap, ap₂, ◌∙◌, subst, inl, inr, arith, length-append, append_assoc}
 use Rattle.std.specs.Prelude.{slice_index}
 use Rattle.std.specs.Int.{from_le_bytes, w16, w64}
 use Rattle.std.proofs.lemmas.Bool.{cases_lt}
 use Rattle.std.proofs.lemmas.List.{take_at, get_or_append_left, get_or-append_right}
 use Rattle.definitions.specs.Columns.{word_bytes, words_of}
-use Rattle.definitions.specs.Blocks.{block_len, IsFull}
-use Rattle.definitions.specs.Packed.{AreBelow, IsPacked}
+use Rattle.definitions.specs.Blocks.{IsFull}
 use Rattle.definitions.specs.Differences.{first_of, delta1_of, delta16_of, least_of, reference_of}
-use Rattle.definitions.specs.Spellings.{width_of, IsPlainBlock, IsDynamicBlock, IsCascade}
+use Rattle.definitions.specs.Spellings.{width_of, IsDynamicBlock, IsCascade}
 use Rattle.definitions.specs.Runs.{run_count, two_bytes, IsRunsBlock}
 use Rattle.definitions.specs.ColumnFiles.{Format, plain, static, dynamic, runs, delta1_dynamic, delta16_dynamic, reference_dynamic, delta1_runs, BlockOf, IsColumnWidth, FitsFormat}
 use Rattle.definitions.proofs.WordLaws.{length-word_bytes, from_le_bytes-word_bytes}
-use Rattle.definitions.proofs.PlainLaws.{same_front, same_rest}
+use Rattle.definitions.proofs.PrefixLaws.{same_front, same_rest}
 use Rattle.definitions.proofs.PackedLaws.{packed_bytes, packed_one_spelling, packed_prefix, IsPacked-spelling}
 use Rattle.definitions.proofs.SpellingLaws.{IsPacked-full, IsPlainBlock-spelling, IsPlainBlock-one, IsPlainBlock-size, IsPlainBlock-octet, IsPlainBlock-front, IsDynamicBlock-spelling, IsDynamicBlock-one, IsDynamicBlock-size, IsDynamicBlock-octet, IsDynamicBlock-front}
 use Rattle.definitions.proofs.RunLaws.{length-two_bytes, from_le_bytes-two_bytes, runs_of, runs_spelling, IsRunsBlock-spelling, IsRunsBlock-one, IsRunsBlock-length, IsRunsBlock-octets, IsRunsBlock-front, IsRunCount, IsFull-run_count, AreRunsOf-count}

@@ -1,17 +1,16 @@
 -- A column has one file in each format, and bytes are the file of one column at most.
-use Rattle.std.proofs.Common.{◌≡◌, ℕ, zero, suc, ◌+◌, ◌-◌, ◌*◌, ◌/◌, ◌%◌, ◌^◌, ◌<◌, ◌≤◌, Option, Some, None, List, [], ◌∷◌, ◌++◌, length, take, drop, get_or, flat_map, if◌then◌else◌, refl, sym, ap, ap₂, ◌∙◌, subst, inl, inr, arith, length-append, append_assoc}
-use Rattle.std.specs.Prelude.{slice_index, ◌==◌}
+use Rattle.std.proofs.Common.{◌≡◌, ℕ, ◌+◌, ◌*◌, ◌/◌, ◌^◌, ◌<◌, List, [], ◌∷◌, ◌++◌, length, take, drop, get_or, if◌then◌else◌, refl, sym, ap, ap₂, ◌∙◌, subst, arith, length-append, append_assoc}
+use Rattle.std.specs.Prelude.{◌==◌}
 use Rattle.std.specs.List.{AllByRecursion}
-use Rattle.std.proofs.lemmas.List.{take_at, drop_at, take-append-drop, append-nil, length-take, length-drop, drop-drop}
-use Rattle.definitions.specs.Columns.{IsWord, IsColumn, max_rows, column_head, word_bytes, words_of}
-use Rattle.definitions.specs.Blocks.{block_len, block_at, IsFull}
-use Rattle.definitions.specs.ColumnFiles.{Format, plain, static, dynamic, runs, delta1_dynamic, delta16_dynamic, reference_dynamic, delta1_runs, tag_of, BlockOf, IsColumnWidth, FitsFormat, whole_blocks, static_width_of, Piece, ArePieces, piece_values, piece_bytes, IsEncoded}
+use Rattle.std.proofs.lemmas.List.{take_at}
+use Rattle.definitions.specs.Columns.{IsWord, column_head, word_bytes, words_of}
+use Rattle.definitions.specs.Blocks.{block_len}
+use Rattle.definitions.specs.ColumnFiles.{Format, plain, static, dynamic, runs, delta1_dynamic, delta16_dynamic, reference_dynamic, delta1_runs, tag_of, whole_blocks, Piece, ArePieces, piece_values, piece_bytes, IsEncoded}
 use Rattle.definitions.proofs.WordLaws.{length-word_bytes}
-use Rattle.definitions.proofs.PlainLaws.{same_front, same_rest, words_of-one}
+use Rattle.definitions.proofs.PrefixLaws.{same_rest, words_of-one}
 use Rattle.definitions.proofs.BlockLaws.{same_word, same_inner, BlockOf-full, BlockOf-front}
 
 -- The tag tells the format.
-
 
 abbrev format_at : ℕ → Format
 format_at tag =

@@ -1,23 +1,22 @@
 -- Bytes are a column file or have one first fault, and never both.
-use Rattle.std.proofs.Common.{◌≡◌, ◌≢◌, ◌⊎◌, ℕ, zero, suc, ◌+◌, ◌-◌, ◌*◌, ◌/◌, ◌%◌, ◌^◌, ◌<◌, ◌≤◌, max, List, [], ◌∷◌, ◌++◌, length, take, drop, get_or, refl, sym, ap, ap₂, ◌∙◌, subst, inl, inr, arith, length-append, append_assoc}
+use Rattle.std.proofs.Common.{◌≡◌, ℕ, zero, suc, ◌*◌, ◌/◌, ◌%◌, ◌^◌, ◌<◌, max, List, [], ◌∷◌, ◌++◌, length, take, drop, get_or, refl, sym, ap, ap₂, ◌∙◌, subst, inl, inr, arith, length-append, append_assoc}
 use Rattle.std.specs.List.{AllByRecursion}
 use Rattle.std.proofs.lemmas.Bool.{cases_lt}
-use Rattle.std.proofs.lemmas.List.{append-nil, take_all, take_at, take-append-drop, nil_from_length, length-take, length-drop, get_or-take, get_or-drop, get_or_past}
+use Rattle.std.proofs.lemmas.List.{take_all, take_at, take-append-drop, nil_from_length, length-take, length-drop}
 use Rattle.definitions.specs.Blocks.{block_len}
-use Rattle.definitions.specs.Columns.{max_rows, column_head, word_bytes, words_of}
+use Rattle.definitions.specs.Columns.{column_head, word_bytes, words_of}
 use Rattle.definitions.specs.Packed.{AreBelow}
 use Rattle.definitions.specs.Spellings.{width_of}
-use Rattle.definitions.specs.ColumnFiles.{Format, plain, static, dynamic, runs, delta1_dynamic, delta16_dynamic, reference_dynamic, delta1_runs, tag_of, BlockOf, IsColumnWidth, whole_blocks, static_width_of, Piece, ArePieces, piece_values, piece_bytes, starts_from, head_len, IsEncoded, IsIndexed, IsColumnFile, LacksBlock, IsHead, Opening, Fault, bad_header, bad_block, bad_width, bad_tail, StopsAt, HasBlocks, asked_width, HasFault}
+use Rattle.definitions.specs.ColumnFiles.{Format, plain, static, dynamic, runs, delta1_dynamic, delta16_dynamic, reference_dynamic, delta1_runs, tag_of, IsColumnWidth, whole_blocks, static_width_of, Piece, ArePieces, piece_values, piece_bytes, starts_from, head_len, IsIndexed, IsColumnFile, LacksBlock, Opening, FileFault, bad_header, bad_block, bad_width, bad_tail, StopsAt, HasBlocks, asked_width, HasFileFault}
 use Rattle.definitions.proofs.BlockLaws.{BlockOf-full, BlockOf-front}
 use Rattle.std.specs.Int.{from_le_bytes, w64}
 use Rattle.definitions.specs.Columns.{IsWord}
-use Rattle.definitions.proofs.WordLaws.{length-word_bytes, word_bytes-from_le_bytes}
+use Rattle.definitions.proofs.WordLaws.{word_bytes-from_le_bytes}
 use Rattle.definitions.proofs.PackedLaws.{AreBelow-front, IsWidth-append}
 use Rattle.definitions.proofs.SpellingLaws.{AreBelow-words, width_of-is, IsWidth-width_of, width_of-narrow, length-words_of, take-octet, drop-octet}
 use Rattle.definitions.proofs.ColumnFileLaws.{tag_of-one, SameHead, column_head-one, length-piece_values, SamePieces, pieces_front, encoded_length, whole_blocks-pieces}
 use Rattle.definitions.proofs.PieceLaws.{AreWords-append}
-use Rattle.definitions.proofs.PlainLaws.{same_rest}
-use Rattle.definitions.proofs.DifferenceLaws.{words_at}
+use Rattle.definitions.proofs.PrefixLaws.{same_rest}
 
 -- What a head and blocks are: one format, width and count.
 
@@ -100,23 +99,23 @@ same_whole one other =
     }
 
 -- bytes have one first fault
-pub HasFault-one : (bytes : List ℕ) (fault other : Fault) → HasFault bytes fault → HasFault bytes other → fault ≡ other
-HasFault-one bytes bad_header bad_header p q = refl
-HasFault-one bytes bad_header (bad_block b) p q = absurd (p q.opening)
-HasFault-one bytes bad_header bad_width p q = absurd (p q.0.opening)
-HasFault-one bytes bad_header bad_tail p q = absurd (p q.0.opening)
-HasFault-one bytes (bad_block a) bad_header p q = absurd (q p.opening)
-HasFault-one bytes (bad_block a) (bad_block b) p q = ap bad_block (one_stop bytes a b p q)
-HasFault-one bytes (bad_block a) bad_width p q = absurd (stops_and_has bytes a p q.0)
-HasFault-one bytes (bad_block a) bad_tail p q = absurd (stops_and_has bytes a p q.0)
-HasFault-one bytes bad_width bad_header p q = absurd (q p.0.opening)
-HasFault-one bytes bad_width (bad_block b) p q = absurd (stops_and_has bytes b q p.0)
-HasFault-one bytes bad_width bad_width p q = refl
-HasFault-one bytes bad_width bad_tail p q = let same = same_whole p.0 q.0 in absurd (p.1 (same.widths ∙ q.1 ∙ sym same.asked))
-HasFault-one bytes bad_tail bad_header p q = absurd (q p.0.opening)
-HasFault-one bytes bad_tail (bad_block b) p q = absurd (stops_and_has bytes b q p.0)
-HasFault-one bytes bad_tail bad_width p q = let same = same_whole p.0 q.0 in absurd (q.1 (sym same.widths ∙ p.1 ∙ same.asked))
-HasFault-one bytes bad_tail bad_tail p q = refl
+pub HasFileFault-one : (bytes : List ℕ) (fault other : FileFault) → HasFileFault bytes fault → HasFileFault bytes other → fault ≡ other
+HasFileFault-one bytes bad_header bad_header p q = refl
+HasFileFault-one bytes bad_header (bad_block b) p q = absurd (p q.opening)
+HasFileFault-one bytes bad_header bad_width p q = absurd (p q.0.opening)
+HasFileFault-one bytes bad_header bad_tail p q = absurd (p q.0.opening)
+HasFileFault-one bytes (bad_block a) bad_header p q = absurd (q p.opening)
+HasFileFault-one bytes (bad_block a) (bad_block b) p q = ap bad_block (one_stop bytes a b p q)
+HasFileFault-one bytes (bad_block a) bad_width p q = absurd (stops_and_has bytes a p q.0)
+HasFileFault-one bytes (bad_block a) bad_tail p q = absurd (stops_and_has bytes a p q.0)
+HasFileFault-one bytes bad_width bad_header p q = absurd (q p.0.opening)
+HasFileFault-one bytes bad_width (bad_block b) p q = absurd (stops_and_has bytes b q p.0)
+HasFileFault-one bytes bad_width bad_width p q = refl
+HasFileFault-one bytes bad_width bad_tail p q = let same = same_whole p.0 q.0 in absurd (p.1 (same.widths ∙ q.1 ∙ sym same.asked))
+HasFileFault-one bytes bad_tail bad_header p q = absurd (q p.0.opening)
+HasFileFault-one bytes bad_tail (bad_block b) p q = absurd (stops_and_has bytes b q p.0)
+HasFileFault-one bytes bad_tail bad_width p q = let same = same_whole p.0 q.0 in absurd (q.1 (sym same.widths ∙ p.1 ∙ same.asked))
+HasFileFault-one bytes bad_tail bad_tail p q = refl
 
 -- A file opens with all its blocks.
 
@@ -178,14 +177,14 @@ file_opening format values bytes is =
     }
 
 -- a file has no fault
-pub HasFault-none : (format : Format) (values bytes : List ℕ) (fault : Fault) → IsColumnFile format values bytes → HasFault bytes fault → ⊥
-HasFault-none format values bytes bad_header is p = p (file_opening format values bytes is).has.opening
-HasFault-none format values bytes (bad_block b) is p = stops_and_has bytes b p (file_opening format values bytes is).has
-HasFault-none format values bytes bad_width is p =
+pub HasFileFault-none : (format : Format) (values bytes : List ℕ) (fault : FileFault) → IsColumnFile format values bytes → HasFileFault bytes fault → ⊥
+HasFileFault-none format values bytes bad_header is p = p (file_opening format values bytes is).has.opening
+HasFileFault-none format values bytes (bad_block b) is p = stops_and_has bytes b p (file_opening format values bytes is).has
+HasFileFault-none format values bytes bad_width is p =
     let open_file = file_opening format values bytes is in
     let same = same_whole p.0 open_file.has in
     p.1 (same.widths ∙ open_file.least ∙ sym same.asked)
-HasFault-none format values bytes bad_tail is p =
+HasFileFault-none format values bytes bad_tail is p =
     let open_file = file_opening format values bytes is in
     let same = same_whole p.0 open_file.has in
     p.2 (ap length same.rests ∙ open_file.rest ∙ ap (λ n. 8 * (n % block_len)) (sym same.counts))
@@ -243,16 +242,16 @@ file_of_opening bytes starts has begins octets least rest =
     record {
       starts_are = begins;
       encoded = record {
-      column = record { few = omega (arith, all, o.head.few); words = AreWords-append (piece_values o.pieces) tail (pieces_words o.format o.width o.pieces o.blocks) (words_in-words (o.count % block_len) o.rest octets) };
-      pieces = o.pieces;
-      tail = tail;
-      blocks = subst (λ w. ArePieces o.format w o.pieces) width o.blocks;
-      short = omega (arith, tail_long);
-      values_are = refl;
-      bytes_are =
-          o.bytes_are
-          ∙ ap₂ (λ w n. column_head (tag_of o.format) w n ++ (piece_bytes o.pieces ++ o.rest)) width (sym all)
-          ∙ ap (λ l. column_head (tag_of o.format) (static_width_of o.format (opening_values o)) (length (opening_values o)) ++ (piece_bytes o.pieces ++ l)) (sym (words_of-words_in (o.count % block_len) o.rest rest octets));
+        column = record { few = omega (arith, all, o.head.few); words = AreWords-append (piece_values o.pieces) tail (pieces_words o.format o.width o.pieces o.blocks) (words_in-words (o.count % block_len) o.rest octets) };
+        pieces = o.pieces;
+        tail = tail;
+        blocks = subst (λ w. ArePieces o.format w o.pieces) width o.blocks;
+        short = omega (arith, tail_long);
+        values_are = refl;
+        bytes_are =
+            o.bytes_are
+            ∙ ap₂ (λ w n. column_head (tag_of o.format) w n ++ (piece_bytes o.pieces ++ o.rest)) width (sym all)
+            ∙ ap (λ l. column_head (tag_of o.format) (static_width_of o.format (opening_values o)) (length (opening_values o)) ++ (piece_bytes o.pieces ++ l)) (sym (words_of-words_in (o.count % block_len) o.rest rest octets));
       };
     }
 

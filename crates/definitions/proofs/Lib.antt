@@ -1,6 +1,6 @@
 pub mod BitLaws
 pub mod WordLaws
-pub mod PlainLaws
+pub mod PrefixLaws
 pub mod PackedLaws
 pub mod SpellingLaws
 pub mod DifferenceLaws

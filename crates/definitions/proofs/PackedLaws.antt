@@ -10,7 +10,7 @@ use Rattle.std.proofs.lemmas.Nat.Bits.{bit_at-lt, same_from_bits_below}
 use Rattle.definitions.specs.Blocks.{block_len}
 use Rattle.definitions.specs.Packed.{strand_bit, AreBelow, IsPacked, IsWidth}
 use Rattle.definitions.proofs.BitLaws.{from_bits, from_bits_lt, bit_at-from_bits, table, length-table, get_or-table}
-use Rattle.definitions.proofs.PlainLaws.{same_front}
+use Rattle.definitions.proofs.PrefixLaws.{same_front}
 
 -- bytes are at most one block
 pub packed_one_block : (width : ℕ) (values others bytes : List ℕ) → IsPacked width values bytes → IsPacked width others bytes → values ≡ others

@@ -1,9 +1,9 @@
 -- Where the pieces of a column stand, and how a column grows by a piece or gets its tail.
-use Rattle.std.proofs.Common.{◌≡◌, ℕ, zero, suc, ◌+◌, ◌-◌, ◌*◌, ◌/◌, ◌%◌, ◌^◌, ◌<◌, ◌≤◌, List, [], ◌∷◌, ◌++◌, length, take, drop, get_or, refl, sym, ap, ap₂, ◌∙◌, subst, inl, inr, arith, length-append, append_assoc}
+use Rattle.std.proofs.Common.{◌≡◌, ℕ, zero, suc, ◌+◌, ◌*◌, ◌/◌, ◌%◌, ◌<◌, ◌≤◌, List, [], ◌∷◌, ◌++◌, length, take, drop, get_or, refl, sym, ap, ap₂, ◌∙◌, subst, arith, length-append, append_assoc}
 use Rattle.std.specs.List.{AllByRecursion}
 use Rattle.std.proofs.Math.Seq.{take-append_seam, drop-append_seam}
-use Rattle.std.proofs.lemmas.List.{take_at, take_all, drop_at, append-nil, drop-drop, nil_from_length}
-use Rattle.definitions.specs.Columns.{IsWord, IsColumn, max_rows, column_head, word_bytes, words_of}
+use Rattle.std.proofs.lemmas.List.{take_at, take_all, take-take, drop-take, take-append-drop, drop_at, append-nil, drop-drop, nil_from_length}
+use Rattle.definitions.specs.Columns.{IsWord, max_rows, column_head, word_bytes, words_of}
 use Rattle.definitions.specs.Blocks.{block_len, block_at, IsFull}
 use Rattle.definitions.specs.ColumnFiles.{Format, tag_of, BlockOf, Piece, ArePieces, piece_values, piece_bytes, starts_from, head_len, IsEncoded, IsIndexed}
 use Rattle.definitions.proofs.WordLaws.{length-word_bytes}
@@ -103,8 +103,14 @@ length-words (value ∷ values) = omega (arith, length-append (word_bytes value)
 pub encoded_size : (format : Format) (width : ℕ) (values bytes : List ℕ) → (is : IsEncoded format width values bytes)
     → length bytes ≡ head_len + length (piece_bytes is.pieces) + 8 * length is.tail
 encoded_size format width values bytes is =
-    omega (arith, ap length is.bytes_are, length-append (column_head (tag_of format) width (length values)) (piece_bytes is.pieces ++ words_of is.tail), length-column_head (tag_of format) width (length values),
-    length-append (piece_bytes is.pieces) (words_of is.tail), length-words is.tail)
+    omega (
+      arith,
+      ap length is.bytes_are,
+      length-append (column_head (tag_of format) width (length values)) (piece_bytes is.pieces ++ words_of is.tail),
+      length-column_head (tag_of format) width (length values),
+      length-append (piece_bytes is.pieces) (words_of is.tail),
+      length-words is.tail,
+    )
 
 -- how many whole blocks and tail values there are
 pub record Counts (format : Format) (width : ℕ) (values bytes starts : List ℕ) (pieces : List Piece) (tail : List ℕ) : Type 0 where
@@ -186,6 +192,10 @@ tail_place format width values bytes starts is =
       few = ap length cut ∙ count.rest;
       are = rest ∙ sym cut;
     }
+
+-- the first values, and those that follow them
+pub take_blocks : (n m : ℕ) (values : List ℕ) → take n values ++ take m (drop n values) ≡ take (n + m) values
+take_blocks n m values = ap₂ (λ (a : List ℕ) (b : List ℕ). a ++ b) (sym (take-take n (n + m) values (omega arith))) (sym (drop-take n m values)) ∙ take-append-drop n (take (n + m) values)
 
 -- How a column grows.
 

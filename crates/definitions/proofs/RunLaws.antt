@@ -2,15 +2,15 @@
 use Rattle.std.proofs.Common.{◌≡◌, ◌≢◌, ℕ, zero, suc, ◌+◌, ◌*◌, ◌^◌, ◌<◌, ◌≤◌, Bool, List, [], ◌∷◌, ◌++◌, length, get_or, flat_map, replicate, if◌then◌else◌, refl, sym, ap, ◌∙◌, subst, ⊎_elim, arith, length-append, append_assoc}
 use Rattle.std.specs.Prelude.{slice_index, ◌==◌}
 use Rattle.std.specs.List.{AllByRecursion}
-use Rattle.std.specs.Int.{to_le_bytes, from_le_bytes, w16, w64}
-use Rattle.std.proofs.lemmas.Bool.{cases_eq, cases_lt, eq-eqb, ne_eqb}
-use Rattle.std.proofs.lemmas.List.{length-replicate, get_or_append_left, get_or-append_right, get_or_past}
+use Rattle.std.specs.Int.{from_le_bytes, w16, w64}
+use Rattle.std.proofs.lemmas.Bool.{cases_eq, eq-eqb, ne_eqb}
+use Rattle.std.proofs.lemmas.List.{length-replicate}
 use Rattle.std.proofs.lemmas.Nat.{le_bytes_2, from_le_bytes-to_le_bytes_2}
 use Rattle.definitions.specs.Blocks.{IsFull}
 use Rattle.definitions.specs.Columns.{IsWord, word_bytes}
 use Rattle.definitions.specs.Runs.{Run, run_values, NeighboursDiffer, AreRunsOf, two_bytes, run_bytes, runs_after, run_count, IsRunsBlock}
 use Rattle.definitions.proofs.WordLaws.{length-word_bytes, from_le_bytes-word_bytes}
-use Rattle.definitions.proofs.PlainLaws.{same_front, same_rest}
+use Rattle.definitions.proofs.PrefixLaws.{same_front, same_rest}
 
 pub length-two_bytes : (number : ℕ) → length (two_bytes number) ≡ 2
 unfolding two_bytes

@@ -4,15 +4,15 @@ use Rattle.std.specs.Prelude.{slice_index}
 use Rattle.std.specs.Int.{from_le_bytes, w64}
 use Rattle.std.specs.List.{AllByRecursion, prefix_len, range_with_len}
 use Rattle.std.proofs.lemmas.Bool.{cases_lt, lt-ltb, ltb-true}
-use Rattle.std.proofs.lemmas.List.{length-take, length-drop, get_or-take, get_or-drop, get_or_past, get_or_append_left, get_or-append_right, take-append-drop, take_at, drop_at, drop-drop, nil_from_length}
+use Rattle.std.proofs.lemmas.List.{length-take, length-drop, get_or-take, get_or-drop, get_or_past, get_or_append_left, get_or-append_right, take-append-drop, take_at, drop-drop, nil_from_length}
 use Rattle.definitions.specs.Columns.{IsWord, word_bytes, words_of}
 use Rattle.definitions.specs.Blocks.{block_len, IsFull}
 use Rattle.definitions.specs.Packed.{AreBelow, IsPacked, IsWidth}
 use Rattle.definitions.specs.Spellings.{fits_width, width_of, IsPlainBlock, IsDynamicBlock}
 use Rattle.definitions.proofs.BitLaws.{table, length-table, get_or-table}
 use Rattle.definitions.proofs.WordLaws.{length-word_bytes, word_bytes-from_le_bytes}
-use Rattle.definitions.proofs.PlainLaws.{same_front, same_rest, words_of-one}
-use Rattle.definitions.proofs.PackedLaws.{packed_one_block, packed_one_spelling, packed_prefix, packed_values, packed_bytes, IsPacked-values, IsPacked-spelling, IsWidth-one, AreBelow-wider}
+use Rattle.definitions.proofs.PrefixLaws.{same_front, words_of-one}
+use Rattle.definitions.proofs.PackedLaws.{packed_one_block, packed_one_spelling, packed_bytes, IsPacked-spelling, AreBelow-wider}
 
 -- Each element by its place.
 

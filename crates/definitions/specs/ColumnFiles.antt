@@ -164,11 +164,11 @@ pub record Opening (bytes : List ℕ) : Type 0 where
 
 -- why bytes are no column file: there is no head; from this block on, which the head says to be there, no block follows; the
 -- width in the head is not the least; the rest is not as long as the tail
-pub data Fault : Type 0 where
-  bad_header : Fault
-  bad_block : ℕ → Fault
-  bad_width : Fault
-  bad_tail : Fault
+pub data FileFault : Type 0 where
+  bad_header : FileFault
+  bad_block : ℕ → FileFault
+  bad_width : FileFault
+  bad_tail : FileFault
 
 -- so many blocks are good, and the next one is none
 pub record StopsAt (bytes : List ℕ) (block : ℕ) : Type 0 where
@@ -187,8 +187,8 @@ abbrev pub asked_width : {bytes : List ℕ} → Opening bytes → ℕ
 asked_width opening = static_width_of opening.format (piece_values opening.pieces)
 
 -- the first fault of the bytes is this one
-abbrev pub HasFault : List ℕ → Fault → Type 0
-HasFault bytes bad_header = Opening bytes → ⊥
-HasFault bytes (bad_block block) = StopsAt bytes block
-HasFault bytes bad_width = (has : HasBlocks bytes) × (has.opening.width ≢ asked_width has.opening)
-HasFault bytes bad_tail = (has : HasBlocks bytes) × (has.opening.width ≡ asked_width has.opening) × (length has.opening.rest ≢ 8 * (has.opening.count % block_len))
+abbrev pub HasFileFault : List ℕ → FileFault → Type 0
+HasFileFault bytes bad_header = Opening bytes → ⊥
+HasFileFault bytes (bad_block block) = StopsAt bytes block
+HasFileFault bytes bad_width = (has : HasBlocks bytes) × (has.opening.width ≢ asked_width has.opening)
+HasFileFault bytes bad_tail = (has : HasBlocks bytes) × (has.opening.width ≡ asked_width has.opening) × (length has.opening.rest ≢ 8 * (has.opening.count % block_len))

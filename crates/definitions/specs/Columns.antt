@@ -1,5 +1,5 @@
 -- A column is a list of 64-bit numbers, and a column file spells it out.
-use Rattle.std.specs.Prelude.{◌≡◌, ℕ, ◌^◌, ◌<◌, ◌≤◌, List, [], ◌∷◌, ◌++◌, length, flat_map, codes}
+use Rattle.std.specs.Prelude.{ℕ, ◌^◌, ◌<◌, ◌≤◌, List, [], ◌∷◌, ◌++◌, length, flat_map, codes}
 use Rattle.std.specs.Int.{to_le_bytes, w64}
 use Rattle.std.specs.List.{AllByRecursion}
 
@@ -26,16 +26,3 @@ words_of values = flat_map word_bytes values
 -- the first 16 bytes of a column file: `MCOL`, version 1, the format's tag, the static width, a zero byte and the count
 abbrev pub column_head : ℕ → ℕ → ℕ → List ℕ
 column_head tag width count = codes "MCOL" ++ (1 ∷ tag ∷ width ∷ 0 ∷ []) ++ word_bytes count
-
--- the tag of the format `plain`
-abbrev pub plain_tag : ℕ
-plain_tag = 0
-
--- a column in the format `plain`: the head, and each value as a word
-abbrev pub plain_file : List ℕ → List ℕ
-plain_file values = column_head plain_tag 0 (length values) ++ words_of values
-
--- the bytes are the column in the format `plain`
-pub record IsPlainFile (bytes values : List ℕ) : Type 0 where
-  pub column : IsColumn values
-  pub spelled : bytes ≡ plain_file values

@@ -1,7 +1,6 @@
 -- What a folder of files says of a table.
 use Rattle.std.specs.Prelude.{◌≡◌, ℕ, ◌≤◌, ◌⊎◌, List, ◌∷◌, ◌++◌, length, codes, Option, Some}
-use Rattle.definitions.specs.Columns.{max_rows, word_bytes, IsPlainFile}
-use Rattle.definitions.specs.Names.{now_file_name, column_file_name}
+use Rattle.definitions.specs.Columns.{max_rows, word_bytes}
 
 -- files by their names
 abbrev pub Files : Type 0
@@ -35,16 +34,3 @@ pub record IsNowFile (bytes : List ℕ) (now : Now) : Type 0 where
   pub slot : IsSlot now.slot
   pub few : now.rows ≤ max_rows
   pub spelled : bytes ≡ now_file now
-
--- the table's now file says so
-pub record StandsAt (files : Files) (table : List ℕ) (now : Now) : Type 0 where
-  pub bytes : List ℕ
-  pub held : Holds files (now_file_name table) max_now_file bytes
-  pub lawful : IsNowFile bytes now
-
--- the column's file in the table's slot has these values, one for each row
-pub record Stores (files : Files) (table : List ℕ) (now : Now) (column : List ℕ) (values : List ℕ) : Type 0 where
-  pub bytes : List ℕ
-  pub held : Holds files (column_file_name table now.slot column) max_column_file bytes
-  pub lawful : IsPlainFile bytes values
-  pub whole : length values ≡ now.rows

@@ -1,18 +1,31 @@
 -- How a step of a command ends in the code, and what that means among the outcomes of its definition.
-use Rattle.std.specs.Prelude.{ℕ, List, codes, Result, Ok, Err}
+use Rattle.std.specs.Prelude.{ℕ, List, ◌++◌, codes, decimal, Result, Ok, Err}
 use Rattle.definitions.specs.Outcomes as outcomes
 use Rattle.definitions.specs.Outcomes.{Outcomes}
-use Rattle.definitions.specs.Replies.{bad_usage, bad_query, bad_database, sum_too_wide}
+use Rattle.definitions.specs.Replies.{bad_usage, bad_query, bad_file, sum_too_wide}
+use Rattle.engine_tool.specs.declared.stops.What.{What}
+use Rattle.engine_tool.specs.declared.stops.What.TheVariants as what
 use Rattle.engine_tool.specs.declared.stops.Refusal.{Refusal}
 use Rattle.engine_tool.specs.declared.stops.Refusal.TheVariants as refusal
 use Rattle.engine_tool.specs.declared.stops.Stop.{Stop}
 use Rattle.engine_tool.specs.declared.stops.Stop.TheVariants as stop
 
+-- what is said of a file
+abbrev pub what_text : What → List ℕ
+what_text what.NoFile = codes "no file"
+what_text what.TooLong = codes "too long"
+what_text what.BadNow = codes "bad now"
+what_text what.BadHeader = codes "bad header"
+what_text (what.BadBlock block) = codes "bad block " ++ decimal block
+what_text what.BadWidth = codes "bad width"
+what_text what.BadTail = codes "bad tail"
+what_text what.Length = codes "length"
+
 -- the refusal that a variant stands for
 abbrev pub refusal_of : Refusal → outcomes.Refusal
 refusal_of refusal.Usage = bad_usage
 refusal_of refusal.Query = bad_query
-refusal_of refusal.Database = bad_database
+refusal_of (refusal.Database file what) = bad_file file (what_text what)
 refusal_of refusal.SumTooWide = sum_too_wide
 
 -- What a step returned is an outcome of its definition. A fault and want of memory say nothing.

@@ -1,10 +1,12 @@
 -- What the reader of a query's text gives.
-use Rattle.std.specs.Prelude.{◌≡◌, ℕ, Bool, List, Some}
+use Rattle.std.specs.Prelude.{◌≡◌, ℕ, Bool, List, Option, Some, None}
 use Rattle.std.specs.Char.{is_ascii_digit}
 use Rattle.definitions.specs.Tokens.{Token, is_white_space, continues_word, first_token}
+use Rattle.definitions.specs.Queries as queries
 use Rattle.definitions.specs.Queries.{Query}
 use Rattle.engine_tool.specs.declared.text.Class.{Class}
 use Rattle.engine_tool.specs.declared.text.Class.TheVariants as class
+use Rattle.engine_tool.specs.declared.text.Condition.{Condition}
 use Rattle.engine_tool.specs.declared.text.SumQuery.{SumQuery}
 
 -- the test of a class of bytes
@@ -22,5 +24,9 @@ abbrev pub HasToken : List ℕ → Token → List ℕ → Type 0
 HasToken text token rest = first_token text ≡ Some (token, rest)
 
 -- what a query's fields say
+abbrev pub condition_view : Option Condition → Option queries.Condition
+condition_view None = None
+condition_view (Some condition) = Some (record { tested = condition.tested; low = condition.low; high = condition.high })
+
 abbrev pub query_view : SumQuery → Query
-query_view query = record { summed = query.summed; table = query.table; tested = query.tested; low = query.low; high = query.high }
+query_view query = record { summed = query.summed; table = query.table; condition = condition_view query.condition }

@@ -5,6 +5,7 @@
 #![tactic(auto)]
 
 mod database;
+mod decoding;
 mod now_file;
 mod replies;
 mod running;

@@ -6,13 +6,13 @@ ghost use Rattle.definitions.specs.Databases.{Files};
 ghost use Rattle.definitions.specs.Faults.{Rose};
 ghost use Rattle.definitions.specs.Outcomes.{OneOr, Then};
 ghost use Rattle.definitions.specs.Queries.{max_query};
-ghost use Rattle.definitions.specs.Replies.{bad_query, IsQueryCommand, QueryOf, ColumnsOf, AnswerOf, CommandReply};
+ghost use Rattle.definitions.specs.Replies.{bad_query, IsQueryCommand, QueryOf, SummedOf, AnswerOf, CommandReply};
 ghost use Rattle.engine_tool.specs.Stops.{Ends, EndsAs};
 ghost use Rattle.engine_tool.specs.Texts.{query_view};
 
-use crate::database::columns_of;
+use crate::database::summed_of;
 use crate::stops::{Refusal, Stop};
-use crate::sums::{answer_of, sum_where};
+use crate::sums::{answer_of, total_of};
 use crate::text::{SumQuery, read_query};
 use std::alloc::Global;
 use stream_core::{Bytes, ReadError, Source, Store, read_all};
@@ -67,21 +67,15 @@ fn query_of<I: Source>(alloc: Global, input: &mut I) -> Result<SumQuery, Stop>
 /// The answer to a query.
 fn answer<S: Store>(alloc: Global, store: &mut S, query: &SumQuery) -> Result<Bytes, Stop>
     ensures step { (files : Files) → S.files store.old ≡ Some files →
-        EndsAs result (Then (ColumnsOf files (query_view query.now)) (AnswerOf (query_view query.now))) }
+        EndsAs result (Then (SummedOf files (query_view query.now)) AnswerOf) }
     ensures kept { S.files store.new ≡ S.files store.old }
     ensures cause { IsErrOf result Stop.StoreFault → Rose (S.faults store.old) (S.faults store.new) }
     ensures no_input { IsErrOf result Stop.InputFault → ⊥ }
     ensures no_usage { IsErrOf result (Stop.Refused Refusal.Usage) → ⊥ }
     ensures later { S.faults store.old ≤ S.faults store.new }
 {
-    let (summed, tested) = columns_of(alloc, store, query)?;
-    let total = sum_where(
-        alloc,
-        summed.as_slice(),
-        tested.as_slice(),
-        query.low,
-        query.high,
-    )?;
+    let kept = summed_of(alloc, store, query)?;
+    let total = total_of(kept.as_slice())?;
     Ok(answer_of(alloc, total)?)
 }
 

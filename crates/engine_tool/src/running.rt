@@ -18,7 +18,10 @@ fn respond<O: Sink>(out: &mut O, end: Result<Bytes, Stop>) -> u8
 {
     let (status, written) = match end {
         Ok(text) => (0, write_all(out, text.as_slice())),
-        Err(stop) => (stop.status(), write_all(out, stop.line().as_bytes())),
+        Err(stop) => (
+            stop.status(),
+            write_all(out, stop.line().as_str().as_bytes()),
+        ),
     };
     match written {
         Ok(()) => status,

@@ -1,49 +1,119 @@
 //! How a command ends early.
 
-ghost use Rattle.std.specs.Prelude.{◌≡◌};
-ghost use Rattle.engine_tool.specs.Stops.{refusal_of, stop_status, stop_line};
+ghost use Rattle.std.specs.Prelude.{◌≡◌, ◌+◌, ◌≤◌, ◌++◌, length, codes, decimal};
+ghost use Rattle.engine_tool.specs.Stops.{refusal_of, what_text, stop_status, stop_line};
 
+use arrayvec::ArrayString;
+use itoa::Buffer;
 use std::alloc::AllocError;
+use stream_core::FileName;
+
+/// A line has at most 115 bytes: `database: `, a file's name of at most 72, `: bad block ` and a number.
+pub type Line = ArrayString<128>;
+
+/// What is wrong with a file of a table.
+#[derive(Clone, Copy, Debug, PartialEq, Eq)]
+pub enum What {
+    NoFile,
+    TooLong,
+    BadNow,
+    BadHeader,
+    BadBlock(u64),
+    BadWidth,
+    BadTail,
+    /// A column has another count than the table's rows.
+    Length,
+}
 
 /// A cause that the answer names.
-#[derive(Clone, Copy, Debug, PartialEq, Eq)]
+#[derive(Drop)]
 pub enum Refusal {
     /// The words denote no command.
     Usage,
     /// The text is no query that is built.
     Query,
-    /// The table doesn't open.
-    Database,
+    /// A file of the table is absent or out of form.
+    Database(FileName, What),
     /// The sum is 2^64 or more.
     SumTooWide,
 }
 
 impl Refusal {
-    pub fn status(self) -> u8
-        ensures { result ≡ (refusal_of self).status }
+    pub fn status(&self) -> u8
+        ensures { result ≡ (refusal_of self.now).status }
     {
         match self {
             Refusal::Usage => 2,
             Refusal::Query => 1,
-            Refusal::Database => 4,
+            Refusal::Database(_, _) => 4,
             Refusal::SumTooWide => 5,
         }
     }
 
-    pub fn line(self) -> &'static str
-        ensures { result.now ≡ (refusal_of self).line }
+    pub fn line(&self) -> Line
+        ensures { result.bytes ≡ (refusal_of self.now).line }
     {
         match self {
-            Refusal::Usage => "usage: see morphq help\n",
-            Refusal::Query => "query: not built\n",
-            Refusal::Database => "database: not built\n",
-            Refusal::SumTooWide => "sum 1 operand 1 group 1: too wide\n",
+            Refusal::Usage => line_of("usage: see morphq help\n"),
+            Refusal::Query => line_of("query: not built\n"),
+            Refusal::Database(file, what) => database_line(file, *what),
+            Refusal::SumTooWide => line_of("sum 1 operand 1 group 1: too wide\n"),
         }
     }
 }
 
+/// A short text as a line.
+fn line_of(text: &str) -> Line
+    requires { length text.now ≤ 128 }
+    ensures { result.bytes ≡ text.now }
+{
+    let mut line = ArrayString::new();
+    line.push_str(text);
+    line
+}
+
+/// `database: FILE: WHAT`.
+fn database_line(file: &FileName, what: What) -> Line
+    ensures { result.bytes ≡ codes "database: " ++ file.now ++ codes ": " ++ what_text what ++ codes "\n" }
+{
+    let mut line = line_of("database: ");
+    line.push_str(file.as_str());
+    line.push_str(": ");
+    push_what(&mut line, what);
+    line.push_str("\n");
+    line
+}
+
+/// Appends what is wrong with a file: at most 30 bytes.
+fn push_what(line: &mut Line, what: What)
+    requires { length line.old.bytes ≤ 90 }
+    ensures text { line.new.bytes ≡ line.old.bytes ++ what_text what }
+    ensures short { length line.new.bytes ≤ length line.old.bytes + 30 }
+{
+    match what {
+        What::NoFile => line.push_str("no file"),
+        What::TooLong => line.push_str("too long"),
+        What::BadNow => line.push_str("bad now"),
+        What::BadHeader => line.push_str("bad header"),
+        What::BadBlock(block) => push_block(line, block),
+        What::BadWidth => line.push_str("bad width"),
+        What::BadTail => line.push_str("bad tail"),
+        What::Length => line.push_str("length"),
+    }
+}
+
+fn push_block(line: &mut Line, block: u64)
+    requires { length line.old.bytes ≤ 90 }
+    ensures text { line.new.bytes ≡ line.old.bytes ++ (codes "bad block " ++ decimal block) }
+    ensures short { length line.new.bytes ≤ length line.old.bytes + 30 }
+{
+    let mut buffer = Buffer::new();
+    line.push_str("bad block ");
+    line.push_str(buffer.format(block));
+}
+
 /// Why a step doesn't go on.
-#[derive(Clone, Copy, Debug, PartialEq, Eq)]
+#[derive(Drop)]
 pub enum Stop {
     Refused(Refusal),
     /// A call of the store failed.
@@ -55,8 +125,8 @@ pub enum Stop {
 }
 
 impl Stop {
-    pub fn status(self) -> u8
-        ensures { result ≡ stop_status self }
+    pub fn status(&self) -> u8
+        ensures { result ≡ stop_status self.now }
     {
         match self {
             Stop::Refused(refusal) => refusal.status(),
@@ -65,14 +135,14 @@ impl Stop {
         }
     }
 
-    pub fn line(self) -> &'static str
-        ensures { result.now ≡ stop_line self }
+    pub fn line(&self) -> Line
+        ensures { result.bytes ≡ stop_line self.now }
     {
         match self {
             Stop::Refused(refusal) => refusal.line(),
-            Stop::StoreFault => "fault: store\n",
-            Stop::InputFault => "fault: input\n",
-            Stop::Memory => "memory\n",
+            Stop::StoreFault => line_of("fault: store\n"),
+            Stop::InputFault => line_of("fault: input\n"),
+            Stop::Memory => line_of("memory\n"),
         }
     }
 }

@@ -23,24 +23,28 @@ fn sum_of(values: &[u64]) -> Option<u64>
     u64::try_from(total).ok()
 }
 
-/// The sum of the first column over the rows whose other column is from `low` to `high`, or nothing where there is no such
-/// row.
-pub fn sum_where(
+/// The values of the first column in the rows whose other column is from `low` to `high`.
+pub fn kept_where(
     alloc: Global,
     summed: &[u64],
     tested: &[u64],
     low: u64,
     high: u64,
-) -> Result<Option<u64>, Stop>
+) -> Result<List<u64>, AllocError>
     requires { length summed.now ≡ length tested.now }
-    ensures step { EndsAs result (OneOr (IsSum (kept_values summed.now tested.now low high)) sum_too_wide) }
+    ensures { IfOk result (λ kept. kept ≡ kept_values summed.now tested.now low high) }
+{
+    let places = select::<8>(alloc, tested, low, high)?;
+    project(alloc, summed, places.as_slice())
+}
+
+/// The sum of the values, or nothing where there is none.
+pub fn total_of(kept: &[u64]) -> Result<Option<u64>, Stop>
+    ensures step { EndsAs result (OneOr (IsSum kept.now) sum_too_wide) }
     ensures no_store { IsErrOf result Stop.StoreFault → ⊥ }
     ensures no_input { IsErrOf result Stop.InputFault → ⊥ }
     ensures no_usage { IsErrOf result (Stop.Refused Refusal.Usage) → ⊥ }
 {
-    let places = select::<8>(alloc, tested, low, high)?;
-    let kept = project(alloc, summed, places.as_slice())?;
-    let kept = kept.as_slice();
     if kept.is_empty() {
         return Ok(None);
     }

@@ -8,21 +8,28 @@ ghost use Rattle.std.specs.Char.{is_ascii_digit};
 ghost use Rattle.std.specs.Str.{str_to_ascii_lowercase};
 ghost use Rattle.std.specs.List.{prefix_len, list_all, AllPass};
 ghost use Rattle.definitions.specs.Names.{is_name_byte, is_keyword, begins_with_letter, IsName};
-ghost use Rattle.definitions.specs.Tokens.{word, number, symbol, is_white_space, begins_word, continues_word, front, behind, value_of, Begins};
-ghost use Rattle.definitions.specs.Queries.{Query, Spells, item_tokens, table_tokens, condition_tokens};
-ghost use Rattle.engine_tool.specs.Texts.{class_test, LacksToken, HasToken, query_view};
+ghost use Rattle.definitions.specs.Tokens.{word, number, symbol, is_white_space, begins_word, continues_word, front, behind, value_of, Begins, AreTokens};
+ghost use Rattle.definitions.specs.Queries as queries;
+ghost use Rattle.definitions.specs.Queries.{Query, Spells, NamesTested, item_tokens, table_tokens, condition_tokens, where_tokens};
+ghost use Rattle.engine_tool.specs.Texts.{class_test, LacksToken, HasToken, condition_view, query_view};
 
 use arrayvec::ArrayString;
 use stream_core::Name;
 
-/// The sum of one column over the rows whose other column is from `low` to `high`.
+/// A column's value is from `low` to `high`.
+#[derive(Drop)]
+pub struct Condition {
+    pub tested: Name,
+    pub low: u64,
+    pub high: u64,
+}
+
+/// The sum of one column over the rows that meet the condition, or over all where there is none.
 #[derive(Drop)]
 pub struct SumQuery {
     pub summed: Name,
     pub table: Name,
-    pub tested: Name,
-    pub low: u64,
-    pub high: u64,
+    pub condition: Option<Condition>,
 }
 
 /// What bytes of one kind a piece of text is made of.
@@ -250,18 +257,34 @@ fn read_table(text: &[u8]) -> Option<(Name, &[u8])>
 }
 
 /// `where COLUMN between LOW and HIGH`.
-fn read_condition(text: &[u8]) -> Option<(Name, u64, u64, &[u8])>
+fn read_condition(text: &[u8]) -> Option<(Condition, &[u8])>
     ensures { MatchOption result
         ((name : List ℕ) (low high : ℕ) (rest : List ℕ) → IsName name → Begins text.now (condition_tokens name low high) rest → ⊥)
-        (λ found. IsName found.0 × Begins text.now (condition_tokens found.0 found.1 found.2) found.3.now) }
+        (λ found. IsName found.0.tested × Begins text.now (condition_tokens found.0.tested found.0.low found.0.high) found.1.now) }
 {
     let rest = keyword(text, b"where")?;
-    let (name, rest) = any_name(rest)?;
+    let (tested, rest) = any_name(rest)?;
     let rest = keyword(rest, b"between")?;
     let (low, rest) = any_number(rest)?;
     let rest = keyword(rest, b"and")?;
     let (high, rest) = any_number(rest)?;
-    Some((name, low, high, rest))
+    Some((Condition { tested, low, high }, rest))
+}
+
+/// What follows the table, to the text's end: a condition, or nothing.
+fn read_where(text: &[u8]) -> Option<Option<Condition>>
+    ensures { MatchOption result
+        ((condition : Option queries.Condition) → NamesTested condition → AreTokens text.now (where_tokens condition) → ⊥)
+        (λ found. NamesTested (condition_view found) × AreTokens text.now (where_tokens (condition_view found))) }
+{
+    if skip_white_space(text).is_empty() {
+        return Some(None);
+    }
+    let (condition, rest) = read_condition(text)?;
+    if !skip_white_space(rest).is_empty() {
+        return None;
+    }
+    Some(Some(condition))
 }
 
 /// The query that the text spells.
@@ -271,15 +294,10 @@ pub fn read_query(text: &[u8]) -> Option<SumQuery>
 {
     let (summed, rest) = read_item(text)?;
     let (table, rest) = read_table(rest)?;
-    let (tested, low, high, rest) = read_condition(rest)?;
-    if !skip_white_space(rest).is_empty() {
-        return None;
-    }
+    let condition = read_where(rest)?;
     Some(SumQuery {
         summed,
         table,
-        tested,
-        low,
-        high,
+        condition,
     })
 }

@@ -62,7 +62,7 @@ values_more cells i place times value into part within before whole e is_times i
     ∙ sym (append_assoc (take place into) (replicate times value) (drop times part ++ behind)) in (
       omega (arith, ap length all, length-append front (drop times part ++ behind), long),
       ap (λ (xs : List ℕ). take (place + times) xs ++ rest) all ∙ ap (λ (xs : List ℕ). xs ++ rest) (take_at front (drop times part ++ behind) (place + times) long)
-      ∙ append_assoc (take place into) (replicate times value) rest ∙ now,
+          ∙ append_assoc (take place into) (replicate times value) rest ∙ now,
     )
 
 -- how much room the runs that are left take

@@ -5,7 +5,8 @@ use Rattle.definitions.specs.ColumnFiles.{FitsFormat, static_width_of}
 use Rattle.block_core.specs.declared.formats.Format.{Format}
 use Rattle.block_core.specs.Formats.{format_of}
 use Rattle.column_core.specs.Columns.{Encoding, encoding, shape}
-use Rattle.column_core.proofs.BuilderLemmas.{whole_count, take_blocks, static_width_of-whole, block_fits}
+use Rattle.column_core.proofs.BuilderLemmas.{whole_count, static_width_of-whole, block_fits}
+use Rattle.definitions.proofs.PieceLaws.{take_blocks}
 use Rattle.column_core.proofs.builders.encode_list.Goals as goal
 
 pub push_block-requires-clause-fits : goal.push_block-requires-clause-fits

@@ -1,0 +1,73 @@
+//! The bytes of column files, and what a reader says of them.
+
+use block_core::Format;
+use column_core::Column;
+use column_file::{ColumnError, read_column};
+use std::alloc::{AllocError, Global};
+use stream_core::List;
+
+/// The formats, in the order of their tags.
+pub const FORMATS: [Format; 8] = [
+    Format::Plain,
+    Format::Static,
+    Format::Dynamic,
+    Format::Runs,
+    Format::Delta1Dynamic,
+    Format::Delta16Dynamic,
+    Format::ReferenceDynamic,
+    Format::Delta1Runs,
+];
+
+/// The first 16 bytes of a file.
+pub fn head(tag: u8, width: u8, count: u64) -> [u8; 16] {
+    let [a, b, c, d, e, f, g, h] = count.to_le_bytes();
+    [
+        0x4d, 0x43, 0x4f, 0x4c, 1, tag, width, 0, a, b, c, d, e, f, g, h,
+    ]
+}
+
+/// A head and three parts behind it.
+pub fn file_of(
+    alloc: Global,
+    head: [u8; 16],
+    first: &[u8],
+    second: &[u8],
+    third: &[u8],
+) -> Result<Vec<u8>, AllocError> {
+    let mut bytes = Vec::from_slice(alloc, &head)?;
+    bytes.extend_from_slice(first)?;
+    bytes.extend_from_slice(second)?;
+    bytes.extend_from_slice(third)?;
+    Ok(bytes)
+}
+
+/// One value 1,024 times, packed at a width: bit `b` of row `r` is bit `r * width + b` of each of the 16 strands, and bit `k`
+/// of strand `s` is bit `k mod 64` of word `(k div 64) * 16 + s`.
+pub fn packed(alloc: Global, width: u8, value: u64) -> Result<Vec<u8>, AllocError> {
+    let mut bytes = Vec::new(alloc);
+    for row_of_words in 0..width as usize {
+        let mut word = 0;
+        for bit in 0..64 {
+            let within = (row_of_words * 64 + bit) % width as usize;
+            word |= (value >> (within & 63) & 1) << bit;
+        }
+        for _ in 0..16 {
+            bytes.extend_from_slice(&word.to_le_bytes())?;
+        }
+    }
+    Ok(bytes)
+}
+
+/// The column whose file the bytes are.
+pub fn read(alloc: Global, bytes: &[u8]) -> Result<Column, ColumnError> {
+    read_column(alloc, List::from_vec(Vec::from_slice(alloc, bytes)?))
+}
+
+/// Why the bytes are refused, if they are.
+pub fn fault_of(alloc: Global, bytes: &[u8]) -> Result<Option<ColumnError>, ColumnError> {
+    match read(alloc, bytes) {
+        Ok(_) => Ok(None),
+        Err(ColumnError::Memory) => Err(ColumnError::Memory),
+        Err(fault) => Ok(Some(fault)),
+    }
+}
