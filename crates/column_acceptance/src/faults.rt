@@ -10,6 +10,11 @@ use std::test::Fail;
 // Two runs of 512 times 5, which would be one.
 const EQUAL_RUNS: [u8; 22] = *b"\x02\0\x05\0\0\0\0\0\0\0\0\x02\x05\0\0\0\0\0\0\0\0\x02";
 
+// The base 0, and the base 5, before differences at width 1.
+const ZERO_AT_ONE: [u8; 9] = *b"\0\0\0\0\0\0\0\0\x01";
+
+const FIVE_AT_ONE: [u8; 9] = *b"\x05\0\0\0\0\0\0\0\x01";
+
 // From this block on there is none.
 const FIRST: Option<ColumnError> = Some(ColumnError::BadBlock { block: 0 });
 
@@ -100,9 +105,9 @@ fn a_first_block_of_bits_that_is_none_is_refused(rt: HostRuntime) -> Result<(), 
     for (tag, front, packed) in [
         (2, b"\x41".as_slice(), wide.as_slice()),
         (2, b"\x01", &zeros),
-        (4, b"\0\0\0\0\0\0\0\0\x01", &ones),
-        (5, b"\0\0\0\0\0\0\0\0\x01", &ones),
-        (6, b"\x05\0\0\0\0\0\0\0\x01", &ones),
+        (4, &ZERO_AT_ONE, &ones),
+        (5, &ZERO_AT_ONE, &ones),
+        (6, &FIVE_AT_ONE, &ones),
         (6, b"\xff\xff\xff\xff\xff\xff\xff\xff\x01", &first),
     ] {
         let bytes = file_of(rt.alloc(), head(tag, 0, 1024), front, packed, b"")?;
@@ -157,21 +162,9 @@ fn a_second_block_that_is_none_is_refused_in_every_format(rt: HostRuntime) -> Re
         (Format::Static, b"", shorter.as_slice()),
         (Format::Dynamic, b"\x04", sevens.as_slice()),
         (Format::Runs, &EQUAL_RUNS, b""),
-        (
-            Format::Delta1Dynamic,
-            b"\0\0\0\0\0\0\0\0\x01",
-            ones.as_slice(),
-        ),
-        (
-            Format::Delta16Dynamic,
-            b"\0\0\0\0\0\0\0\0\x01",
-            ones.as_slice(),
-        ),
-        (
-            Format::ReferenceDynamic,
-            b"\x05\0\0\0\0\0\0\0\x01",
-            ones.as_slice(),
-        ),
+        (Format::Delta1Dynamic, &ZERO_AT_ONE, ones.as_slice()),
+        (Format::Delta16Dynamic, &ZERO_AT_ONE, ones.as_slice()),
+        (Format::ReferenceDynamic, &FIVE_AT_ONE, ones.as_slice()),
         (Format::Delta1Runs, b"\0\0\0\0\0\0\0\0", &EQUAL_RUNS),
     ] {
         let column = encode_list(rt.alloc(), values.as_slice(), format)?;
