@@ -2,6 +2,7 @@
 //
 // Usage: columns TASK FORMAT COUNT ROUNDS [pick|block]. The task is cursor, build, list, rising or random; the last word says
 // how values are looked up, by picking each from the bytes or by decoding its block. It prints a checksum.
+#include "blocks.hpp"
 #include <algorithm>
 #include <cstdint>
 #include <cstdio>
@@ -11,29 +12,8 @@
 #include <string>
 #include <vector>
 
-using std::size_t;
-constexpr size_t VALUES = 1024, STRANDS = 16, ROWS = 64, HEAD = 16, SPARSE = 3;
-// as many lanes as a register of the processor level has
-#ifdef __AVX2__
-constexpr size_t LANES = 4;
-#else
-constexpr size_t LANES = 2;
-#endif
-typedef uint64_t lanes __attribute__((vector_size(8 * LANES), aligned(1), may_alias));
-typedef uint64_t Block[VALUES];
-typedef std::vector<uint8_t> Bytes;
+constexpr size_t HEAD = 16, SPARSE = 3;
 typedef std::vector<uint64_t> Words;
-
-template <class Number> Number number_at(const uint8_t *bytes) {
-    Number number;
-    memcpy(&number, bytes, sizeof number);
-    return number;
-}
-
-template <class Number> void put_number(Bytes &bytes, Number number) {
-    const uint8_t *first = (const uint8_t *)&number;
-    bytes.insert(bytes.end(), first, first + sizeof number);
-}
 
 int width_of(const uint64_t *values, size_t count) {
     uint64_t all = 0;

@@ -1,6 +1,7 @@
 // The formats of a block in C++: packed at the block's own width, runs, and differences in either.
 //
 // Usage: formats (decode|check) FORMAT SHAPE ROUNDS. A round goes over eight blocks. It prints a checksum.
+#include "blocks.hpp"
 #include <algorithm>
 #include <cstdint>
 #include <cstdio>
@@ -9,28 +10,7 @@
 #include <string>
 #include <vector>
 
-using std::size_t;
-constexpr size_t VALUES = 1024, STRANDS = 16, ROWS = 64, BLOCKS = 8;
-// as many lanes as a register of the processor level has
-#ifdef __AVX2__
-constexpr size_t LANES = 4;
-#else
-constexpr size_t LANES = 2;
-#endif
-typedef uint64_t lanes __attribute__((vector_size(8 * LANES), aligned(1), may_alias));
-typedef uint64_t Block[VALUES];
-typedef std::vector<uint8_t> Bytes;
-
-template <class Number> Number number_at(const uint8_t *bytes) {
-    Number number;
-    memcpy(&number, bytes, sizeof number);
-    return number;
-}
-
-template <class Number> void put_number(Bytes &bytes, Number number) {
-    const uint8_t *first = (const uint8_t *)&number;
-    bytes.insert(bytes.end(), first, first + sizeof number);
-}
+constexpr size_t BLOCKS = 8;
 
 // Packed at the block's own width, which stands before it.
 struct Dynamic {

@@ -1,0 +1,29 @@
+// What the benchmarks of blocks and columns share: the sizes of a block, a register's lanes, and numbers as bytes.
+#pragma once
+#include <cstddef>
+#include <cstdint>
+#include <cstring>
+#include <vector>
+
+using std::size_t;
+constexpr size_t VALUES = 1024, STRANDS = 16, ROWS = 64;
+// as many lanes as a register of the processor level has
+#ifdef __AVX2__
+constexpr size_t LANES = 4;
+#else
+constexpr size_t LANES = 2;
+#endif
+typedef uint64_t lanes __attribute__((vector_size(8 * LANES), aligned(1), may_alias));
+typedef uint64_t Block[VALUES];
+typedef std::vector<uint8_t> Bytes;
+
+template <class Number> Number number_at(const uint8_t *bytes) {
+    Number number;
+    memcpy(&number, bytes, sizeof number);
+    return number;
+}
+
+template <class Number> void put_number(Bytes &bytes, Number number) {
+    const uint8_t *first = (const uint8_t *)&number;
+    bytes.insert(bytes.end(), first, first + sizeof number);
+}
