@@ -12,6 +12,9 @@ use std::marker::Model;
 /// How many values a block has.
 pub const BLOCK_LEN: usize = 1024;
 
+/// How many values a column has at most, 2^28.
+pub const MAX_ROWS: u64 = 268_435_456;
+
 /// At most 1,024 values, kept in place: 8 KiB and a length. A full block has 1,024. Lend it by reference; moving one copies
 /// all of it.
 #[derive(Drop)]

@@ -8,24 +8,28 @@ use std::alloc::AllocError;
 
 /// Takes the values of a list in order.
 pub trait Emit {
+    /// What a push leaves as it was, as a builder's format and width.
+    ghost Frame: { Type 0 };
+
+    ghost frame: { Self → Frame };
+
     /// The list that was pushed so far.
     ghost list: { Self → List ℕ };
 
-    /// Which lists the emitter may be given. It never changes, and with a list it holds the list's prefixes.
-    ghost scope: { Self → List ℕ → Bool };
+    /// Which lists the emitter may be given. With a list it holds the list's prefixes.
+    ghost scope: { Frame → List ℕ → Bool };
 
-    /// Which lists the emitter is sure to take. A push leaves it as it was.
-    ghost room: { Self → List ℕ → Bool };
+    /// Which lists the emitter is sure to take.
+    ghost room: { Frame → List ℕ → Bool };
 
     /// Appends a value. An `Err` changes nothing, and none comes where there is room.
     fn push(&mut self, value: u64) -> Result<(), AllocError>
         requires few { length (list self.old) < max_rows }
-        requires in_scope { scope self.old (list self.old ++ value ∷ []) ≡ true }
+        requires in_scope { scope (frame self.old) (list self.old ++ value ∷ []) ≡ true }
         ensures ok { OnOk result (list self.new ≡ list self.old ++ value ∷ []) }
         ensures err { OnErr result (list self.new ≡ list self.old) }
-        ensures scope { (values : List ℕ) → scope self.new values ≡ scope self.old values }
-        ensures room { (values : List ℕ) → room self.new values ≡ room self.old values }
-        ensures sure { room self.old (list self.old ++ value ∷ []) ≡ true → IsOk result };
+        ensures frame { frame self.new ≡ frame self.old }
+        ensures sure { room (frame self.old) (list self.old ++ value ∷ []) ≡ true → IsOk result };
 
     ghost scope_law: { HoldsOfPrefixes scope };
 

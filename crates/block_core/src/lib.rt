@@ -13,7 +13,7 @@ mod formats;
 mod packings;
 mod sources;
 
-pub use blocks::{BLOCK_LEN, Block};
+pub use blocks::{BLOCK_LEN, Block, MAX_ROWS};
 pub use counts::{Own, Steps};
 pub use emitters::Emit;
 pub use formats::{Format, FormatChoice};

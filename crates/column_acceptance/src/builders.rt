@@ -1,29 +1,24 @@
 //! Columns that are built a value at a time.
 
-ghost use Rattle.std.specs.Prelude.{◌≡◌, ◌≤◌, length};
+ghost use Rattle.std.specs.Prelude.{◌≡◌, ◌≤◌, length, IfOk};
 ghost use Rattle.definitions.specs.Columns.{max_rows};
 
 use crate::files::FORMATS;
 use crate::generic::push_all;
 use crate::shapes::Shape;
-use crate::watched::Watched;
-use column_core::{Column, encode_list};
+use column_core::{Builder, Column, encode_list};
 use std::alloc::{AllocError, Global};
 use std::test::Fail;
 
-// The file of a column with this list, whose values are pushed one by one through the bound of an emitter. There is none
-// where the emitter's format or width does not stay.
-fn built(alloc: Global, column: &Column, values: &[u64]) -> Result<Option<Column>, AllocError>
+// The column of the same list, format and width, whose values are pushed one by one through the bound of an emitter.
+fn built(alloc: Global, column: &Column, values: &[u64]) -> Result<Column, AllocError>
     requires same { column.now.values ≡ values.now }
     requires few { length values.now ≤ max_rows }
+    ensures { IfOk result (λ built. built ≡ column.now) }
 {
-    let mut watched = Watched::new(alloc, column.format(), column.static_width())?;
-    push_all(&mut watched, values)?;
-    if watched.is_like(column) {
-        Ok(Some(watched.builder.finish()?))
-    } else {
-        Ok(None)
-    }
+    let mut builder = Builder::new(alloc, column.format(), column.static_width())?;
+    push_all(&mut builder, values)?;
+    builder.finish()
 }
 
 #[test]
@@ -42,7 +37,6 @@ fn values_pushed_one_by_one_give_the_file_of_the_list(rt: HostRuntime) -> Result
             for format in FORMATS {
                 let column = encode_list(rt.alloc(), values.as_slice(), format)?;
                 let built = built(rt.alloc(), &column, values.as_slice())?;
-                let built = built.expect(&rt, "the emitter has the column's format and width");
                 assert_eq!(rt;
                     built.encoded(),
                     column.encoded(),

@@ -49,8 +49,9 @@ pub fn picked(alloc: Global, values: &[u64], places: &[u64]) -> Result<Vec<u64>,
 /// Pushes the values in order.
 pub fn push_all<O: Emit>(into: &mut O, values: &[u64]) -> Result<(), AllocError>
     requires few { length (O.list into.old) + length values.now ≤ max_rows }
-    requires in_scope { O.scope into.old (O.list into.old ++ values.now) ≡ true }
-    ensures { OnOk result (O.list into.new ≡ O.list into.old ++ values.now) }
+    requires in_scope { O.scope (O.frame into.old) (O.list into.old ++ values.now) ≡ true }
+    ensures list { OnOk result (O.list into.new ≡ O.list into.old ++ values.now) }
+    ensures frame { O.frame into.new ≡ O.frame into.old }
 {
     for value in values {
         into.push(*value)?;

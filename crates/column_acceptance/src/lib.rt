@@ -22,5 +22,3 @@ mod reading;
 mod shapes;
 #[cfg(test)]
 mod sources;
-#[cfg(test)]
-mod watched;

@@ -50,18 +50,6 @@ fn task_named(name: &str) -> Option<Task> {
     None
 }
 
-/// The format of a name.
-fn format_named(name: &str) -> Option<Format> {
-    for tag in 0..8 {
-        if let Some(format) = Format::from_tag(tag) {
-            if format.name() == name {
-                return Some(format);
-            }
-        }
-    }
-    None
-}
-
 /// The number that a word spells, or 0.
 fn number(word: Option<&String>) -> u64 {
     match word {
@@ -103,7 +91,7 @@ fn main(rt: HostRuntime) -> io::Result<()> {
     if words.len() < 5 {
         return Ok(());
     }
-    let (Some(task), Some(format)) = (task_named(&words[1]), format_named(&words[2])) else {
+    let (Some(task), Some(format)) = (task_named(&words[1]), Format::from_name(&words[2])) else {
         return Ok(());
     };
     let values = values_of(rt.alloc(), format, number(words.get(3)))?;

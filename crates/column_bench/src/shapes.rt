@@ -3,11 +3,8 @@
 ghost use Rattle.std.specs.Prelude.{◌≡◌, ◌<◌, ◌≤◌, length, IfOk};
 ghost use Rattle.definitions.specs.Columns.{max_rows};
 
-use block_core::Format;
+use block_core::{Format, MAX_ROWS};
 use std::alloc::{AllocError, Global};
-
-/// How many values a column has at most.
-const MAX_ROWS: u64 = 268_435_456;
 
 /// What the values look like. A random number of so many bits stands for a random number of places, and then the next one.
 #[derive(Drop)]

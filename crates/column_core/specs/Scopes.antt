@@ -10,6 +10,14 @@ use Rattle.definitions.proofs.SpellingLaws.{AreBelow-from_fits, fits_from_AreBel
 use Rattle.block_core.specs.declared.formats.Format.{Format}
 use Rattle.block_core.specs.Formats.{format_of}
 
+-- what pushes leave as it was of a builder
+pub record Frame : Type 0 where
+  pub format : Format
+  pub width : ℕ
+
+abbrev pub frame : Format → ℕ → Frame
+frame format width = record { format = format; width = width }
+
 -- whole blocks were encoded, and a block waits behind them
 pub record IsBuilding (format : Format) (width : ℕ) (values block : List ℕ) : Type 0 where
   pub lawful : IsColumnWidth (format_of format) width

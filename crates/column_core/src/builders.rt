@@ -69,11 +69,15 @@ impl Emit for Builder {
     ghost use Rattle.definitions.specs.ColumnFiles.{fits_columns};
     ghost use Rattle.block_core.specs.Formats.{format_of};
     ghost use Rattle.column_core.specs.Columns.{encoding};
-    ghost use Rattle.column_core.specs.Scopes.{HoldsOfPrefixes-fits_columns};
+    ghost use Rattle.column_core.specs.Scopes.{Frame, frame, HoldsOfPrefixes-fits_columns};
+
+    ghost Frame = { Frame };
+
+    ghost frame = { λ builder. frame builder.format builder.width };
 
     ghost list = { λ builder. builder.values };
 
-    ghost scope = { λ builder values. fits_columns (format_of builder.format) builder.width values };
+    ghost scope = { λ of values. fits_columns (format_of of.format) of.width values };
 
     ghost room = { λ _ _. false };
 
@@ -90,7 +94,7 @@ impl Emit for Builder {
         Ok(())
     }
 
-    ghost scope_law = { λ builder values rest. HoldsOfPrefixes-fits_columns (format_of builder.format) builder.width values rest };
+    ghost scope_law = { λ of values rest. HoldsOfPrefixes-fits_columns (format_of of.format) of.width values rest };
 
     ghost room_law = { λ _ _ _ e. e };
 }

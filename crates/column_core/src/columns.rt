@@ -1,10 +1,10 @@
 //! A column: one list in one format, as its file.
 
-ghost use Rattle.std.specs.Prelude.{◌≡◌, ◌+◌, ◌*◌, ◌/◌, ◌%◌, ◌<◌, ◌≤◌, ℕ, List as Items, length, slice_index, take, drop, IfSome};
+ghost use Rattle.std.specs.Prelude.{◌≡◌, ◌+◌, ◌*◌, ◌/◌, ◌%◌, ◌<◌, ◌≤◌, ℕ, List as Items, length, slice_index, take, drop, true, IfSome};
 ghost use Rattle.std.specs.Int.{from_le_bytes, w64};
 ghost use Rattle.definitions.specs.Blocks.{block_len, block_at};
 ghost use Rattle.definitions.specs.Columns.{max_rows};
-ghost use Rattle.definitions.specs.ColumnFiles.{BlockOf, IsColumnFile, IsIndexed, static_width_of};
+ghost use Rattle.definitions.specs.ColumnFiles.{BlockOf, IsColumnFile, IsColumnWidth, IsIndexed, fits_columns, static_width_of};
 ghost use Rattle.block_core.specs.Formats.{format_of, tag_of};
 ghost use Rattle.column_core.specs.Columns.{shape};
 
@@ -72,9 +72,12 @@ impl Column {
         self.encoded.count()
     }
 
-    /// The width in the head: in the format `static` the least that holds every value of the whole blocks, and else 0.
+    /// The width in the head: in the format `static` the least that holds every value of the whole blocks, and else 0. A
+    /// builder of the same format and list may be given it.
     pub fn static_width(&self) -> u8
-        ensures { result ≡ static_width_of (format_of self.now.format) self.now.values }
+        ensures width { result ≡ static_width_of (format_of self.now.format) self.now.values }
+        ensures lawful { IsColumnWidth (format_of self.now.format) result }
+        ensures fits { fits_columns (format_of self.now.format) result self.now.values ≡ true }
     {
         self.encoded.width()
     }

@@ -3,24 +3,19 @@
 ghost use Rattle.std.specs.Prelude.{◌≡◌, ◌+◌, ◌*◌, ◌/◌, ◌%◌, ◌<◌, ◌≤◌, ◌++◌, ◌∷◌, [], ℕ, List as Items, length, take, drop, ◌-◌, OnOk, OnErr, IfOk};
 ghost use Rattle.std.specs.List.{AllByRecursion};
 ghost use Rattle.definitions.specs.Blocks.{block_len, block_at, IsFull};
-ghost use Rattle.definitions.specs.Columns.{IsWord, max_rows, column_head, words_of};
+ghost use Rattle.definitions.specs.Columns.{IsColumn, IsWord, max_rows, words_of};
 ghost use Rattle.definitions.specs.ColumnFiles as columns;
 ghost use Rattle.definitions.specs.ColumnFiles.{BlockOf, IsColumnWidth, FitsFormat, IsEncoded, IsIndexed};
 ghost use Rattle.definitions.proofs.PieceLaws.{with_count};
-ghost use Rattle.block_core.specs.Formats.{format_of, tag_of};
+ghost use Rattle.block_core.specs.Formats.{format_of};
 ghost use Rattle.column_core.specs.Columns.{encoding, Spelled, Spelled-prop};
 
 use crate::blocks::append_block;
+use crate::heads::{COUNT_AT, HEAD_LEN, head_bytes};
 use crate::words::{append_words, word_bytes_of};
 use block_core::{BLOCK_LEN, Block, Format};
 use std::alloc::{AllocError, Global};
 use std::marker::Model;
-
-/// How many bytes stand before the first block.
-const HEAD_LEN: usize = 16;
-
-/// Where the head says how many values there are.
-const COUNT_AT: usize = 8;
 
 /// A list in one format, as the file that spells it, at a width that need not be the least yet. Beside the bytes it keeps
 /// where each whole block starts: 8 bytes a block.
@@ -54,7 +49,7 @@ impl Encoded {
         ensures { IfOk result (λ encoded. encoded ≡ encoding format width []) }
     {
         let mut bytes = Vec::with_capacity(alloc, HEAD_LEN)?;
-        bytes.extend_from_slice(&head_of(format, width))?;
+        bytes.extend_from_slice(&head_bytes(format, width, 0))?;
         Ok(Encoded {
             format,
             width,
@@ -86,7 +81,8 @@ impl Encoded {
     }
 
     pub fn width(&self) -> u8
-        ensures { result ≡ self.now.width }
+        ensures width { result ≡ self.now.width }
+        ensures column { IsColumn self.now.values }
     {
         self.width
     }
@@ -243,16 +239,6 @@ fn tail_size(count: u64) -> usize
     ensures { result ≡ 8 * (count % block_len) }
 {
     8 * (count as usize % BLOCK_LEN)
-}
-
-/// The head of a file without values.
-fn head_of(format: Format, width: u8) -> [u8; 16]
-    ensures { result ≡ column_head (tag_of format) width 0 }
-{
-    let mut head = *b"MCOL\x01\0\0\0\0\0\0\0\0\0\0\0";
-    head[5] = format.tag();
-    head[6] = width;
-    head
 }
 
 /// Writes how many values there are into the head.

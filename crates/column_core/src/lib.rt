@@ -9,6 +9,7 @@ mod columns;
 mod cursors;
 mod encodings;
 mod gathers;
+mod heads;
 mod spellings;
 mod words;
 
@@ -17,3 +18,4 @@ pub use builders::{Builder, encode_list};
 pub use columns::Column;
 pub use cursors::Cursor;
 pub use gathers::Gather;
+pub use heads::{HEAD_LEN, head_bytes};

@@ -2,18 +2,13 @@
 
 ghost use Rattle.std.specs.Prelude.{◌≡◌, ◌+◌, ◌≤◌, ◌↔◌, ℕ, List, length, take, drop, IsTrue, MatchOption};
 ghost use Rattle.std.specs.Int.{from_le_bytes, w64};
-ghost use Rattle.definitions.specs.Columns.{column_head, max_rows, word_bytes};
+ghost use Rattle.definitions.specs.Columns.{column_head, max_rows};
 ghost use Rattle.definitions.specs.ColumnFiles.{IsColumnWidth};
 ghost use Rattle.block_core.specs.Formats.{format_of, tag_of};
 ghost use Rattle.column_file.specs.Reading.{LacksHead, BeginsWithHead};
 
-use block_core::Format;
-
-/// How many bytes a head has.
-pub const HEAD_LEN: usize = 16;
-
-/// How many values a column has at most.
-const MAX_ROWS: u64 = 268_435_456;
+use block_core::{Format, MAX_ROWS};
+use column_core::{HEAD_LEN, head_bytes};
 
 /// The width of a 64-bit number.
 const MAX_WIDTH: u8 = 64;
@@ -71,25 +66,7 @@ fn is_lawful(format: Format, width: u8) -> bool
 fn is_head(found: &[u8], format: Format, width: u8, count: u64) -> bool
     ensures { IsTrue result ↔ (found.now ≡ column_head (tag_of format) width count) }
 {
-    found == &head_of(format, width, count)[..]
-}
-
-/// The 16 bytes of a head.
-fn head_of(format: Format, width: u8, count: u64) -> [u8; 16]
-    ensures { result ≡ column_head (tag_of format) width count }
-{
-    let mut head = *b"MCOL\x01\0\0\0\0\0\0\0\0\0\0\0";
-    head[5] = format.tag();
-    head[6] = width;
-    head[8..].copy_from_slice(&word_of(count));
-    head
-}
-
-#[tactic(auto, unfolding(definitions::specs::Columns::word_bytes))]
-fn word_of(value: u64) -> [u8; 8]
-    ensures { result ≡ word_bytes value }
-{
-    value.to_le_bytes()
+    found == &head_bytes(format, width, count)[..]
 }
 
 /// The count in a head.

@@ -12,9 +12,9 @@ ghost use Rattle.column_core.specs.Columns.{shape};
 ghost use Rattle.column_file.specs.Reading.{BeginsWithHead, ReadSo};
 ghost use Rattle.column_file.specs.Faults.{fault_of, Says};
 
-use crate::heads::{HEAD_LEN, Head, read_head};
+use crate::heads::{Head, read_head};
 use block_core::{BLOCK_LEN, Block, Format};
-use column_core::{Column, check_block, decode_block};
+use column_core::{Column, HEAD_LEN, check_block, decode_block};
 use std::alloc::{AllocError, Global};
 use stream_core::{Bytes, List};
 

@@ -3,31 +3,16 @@
 ghost use Rattle.std.specs.Prelude.{◌≤◌, length, IfOk};
 ghost use Rattle.definitions.specs.Columns.{max_rows};
 
-use block_core::Format;
+use block_core::{Format, MAX_ROWS};
 use column_core::{Column, encode_list};
 use std::alloc::{AllocError, Global};
-
-/// How many values a column has at most.
-const MAX_ROWS: usize = 268_435_456;
-
-/// The format of a name.
-pub fn format_named(name: &str) -> Option<Format> {
-    for tag in 0..8 {
-        if let Some(format) = Format::from_tag(tag) {
-            if format.name() == name {
-                return Some(format);
-            }
-        }
-    }
-    None
-}
 
 /// The words that the bytes spell, as many as a column has at most. Bytes after the last whole word are left.
 fn words_of(alloc: Global, bytes: &[u8]) -> Result<Vec<u64>, AllocError>
     ensures { IfOk result (λ values. length values.items ≤ max_rows) }
 {
     let (words, _) = bytes.as_chunks::<8>();
-    let count = words.len().min(MAX_ROWS);
+    let count = words.len().min(MAX_ROWS as usize);
     let mut values = vec![in alloc; 0; count]?;
     for (value, word) in values.iter_mut().zip(words.iter()) {
         *value = u64::from_le_bytes(*word);

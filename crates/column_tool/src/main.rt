@@ -8,8 +8,9 @@
 mod checking;
 mod encoding;
 
+use block_core::Format;
 use checking::check_files;
-use encoding::{encode_words, format_named};
+use encoding::encode_words;
 use std::io::{Read, Write};
 use std::process::ExitCode;
 use std::{env, io};
@@ -19,7 +20,7 @@ fn run(rt: &HostRuntime, words: &[String]) -> io::Result<bool> {
     let mut bytes = Vec::new(rt.alloc());
     match words {
         [_, task, name] if task.as_str() == "encode" => {
-            let Some(format) = format_named(name.as_str()) else {
+            let Some(format) = Format::from_name(name.as_str()) else {
                 return Ok(false);
             };
             rt.reader().read_to_end(&mut bytes)?;

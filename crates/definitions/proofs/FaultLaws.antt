@@ -17,6 +17,7 @@ use Rattle.definitions.proofs.SpellingLaws.{AreBelow-words, width_of-is, IsWidth
 use Rattle.definitions.proofs.ColumnFileLaws.{tag_of-one, SameHead, column_head-one, length-piece_values, SamePieces, pieces_front, encoded_length, whole_blocks-pieces}
 use Rattle.definitions.proofs.PieceLaws.{AreWords-append}
 use Rattle.definitions.proofs.PrefixLaws.{same_rest}
+use Rattle.definitions.proofs.WidthLaws.{static_width_of-lawful}
 
 -- What a head and blocks are: one format, width and count.
 
@@ -119,16 +120,6 @@ HasFileFault-one bytes bad_tail bad_tail p q = refl
 
 -- A file opens with all its blocks.
 
-lawful_width : (format : Format) (values : List ℕ) → AreBelow 64 values → IsColumnWidth format (static_width_of format values)
-lawful_width plain values small = refl
-lawful_width static values small = width_of-narrow (whole_blocks values) (AreBelow-front 64 (whole_blocks values) (drop (length values / block_len * block_len) values) (subst (AreBelow 64) (sym (take-append-drop (length values / block_len * block_len) values)) small))
-lawful_width dynamic values small = refl
-lawful_width runs values small = refl
-lawful_width delta1_dynamic values small = refl
-lawful_width delta16_dynamic values small = refl
-lawful_width reference_dynamic values small = refl
-lawful_width delta1_runs values small = refl
-
 -- where lists have the same whole blocks, they ask for the same width
 static_width_of-blocks : (format : Format) (values others : List ℕ) → whole_blocks values ≡ whole_blocks others → static_width_of format values ≡ static_width_of format others
 static_width_of-blocks plain values others e = refl
@@ -164,7 +155,7 @@ file_opening format values bytes is =
           format = format;
           width = static_width_of format values;
           count = length values;
-          head = record { lawful = lawful_width format values (AreBelow-words values is.column.words); few = is.column.few };
+          head = record { lawful = static_width_of-lawful format values (AreBelow-words values is.column.words); few = is.column.few };
           pieces = is.pieces;
           blocks = is.blocks;
           rest = words_of is.tail;

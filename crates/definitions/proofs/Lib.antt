@@ -8,6 +8,7 @@ pub mod RunLaws
 pub mod BlockLaws
 pub mod ColumnFileLaws
 pub mod PieceLaws
+pub mod WidthLaws
 pub mod FaultLaws
 pub mod SumLaws
 pub mod WorkedExamples

@@ -6,6 +6,8 @@ ghost use Rattle.definitions.specs.Databases as databases;
 ghost use Rattle.definitions.specs.Databases.{IsSlot, now_file, IsNowFile};
 ghost use Rattle.engine_tool.specs.Tables.{letter_of, now_view};
 
+use block_core::MAX_ROWS;
+
 /// Which of a table's two sets of files holds its rows.
 #[derive(Clone, Copy, Debug, PartialEq, Eq)]
 pub enum Slot {
@@ -30,9 +32,6 @@ pub struct Now {
     pub slot: Slot,
     pub rows: u64,
 }
-
-/// How many rows a table has at most.
-const MAX_ROWS: u64 = 268_435_456;
 
 /// How many bytes a now file has, and where its row count begins.
 const NOW_LEN: usize = 13;

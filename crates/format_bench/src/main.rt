@@ -23,23 +23,6 @@ fn number(word: Option<&String>) -> u64 {
     }
 }
 
-/// The format of a name.
-fn format_named(name: &str) -> Option<Format> {
-    for format in [
-        Format::Dynamic,
-        Format::Runs,
-        Format::Delta1Dynamic,
-        Format::Delta16Dynamic,
-        Format::ReferenceDynamic,
-        Format::Delta1Runs,
-    ] {
-        if format.name() == name {
-            return Some(format);
-        }
-    }
-    None
-}
-
 /// The checksum of the rounds in a format.
 fn checksum(alloc: Global, format: Format, work: &Work) -> Result<u64, AllocError> {
     match format {
@@ -63,7 +46,7 @@ fn main(rt: HostRuntime) -> io::Result<()> {
         shape: number(words.get(3)),
         rounds: number(words.get(4)),
     };
-    let sum = match format_named(words[2].as_str()) {
+    let sum = match Format::from_name(words[2].as_str()) {
         Some(format) => checksum(rt.alloc(), format, &work)?,
         None => 0,
     };

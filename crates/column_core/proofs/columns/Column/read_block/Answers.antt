@@ -9,4 +9,4 @@ pub returns-then-number-whole_blocks : goal.returns-then-number-whole_blocks
 returns-then-number-whole_blocks g c =
     let column = c.args.self.now in
     BlockOf-values (format_of column.format) (static_width_of (format_of column.format) column.values) c.decode_block.new.into (block_at column.values c.args.number) c.block_bytes-bytes.result.now
-    (rw (c.format.ensures, c.static_width.ensures) at c.decode_block.ensures) c.block_bytes-bytes.ensures
+    (rw (c.format.ensures, c.static_width.ensures.width) at c.decode_block.ensures) c.block_bytes-bytes.ensures

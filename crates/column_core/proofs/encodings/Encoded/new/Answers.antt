@@ -10,12 +10,12 @@ use Rattle.column_core.proofs.encodings.Encoded.new.Goals as goal
 pub invariant_of-result-2 : goal.invariant_of-result-2
 invariant_of-result-2 c =
     let bytes : c.extend_from_slice.new.self.items ≡ column_head (tag_of c.args.format) c.args.width 0 =
-    c.in_ok-extend_from_slice.ensures.items ∙ ap (λ l. l ++ c.head_of.result) c.in_ok-bytes.ensures.items ∙ c.head_of.ensures in
+    c.in_ok-extend_from_slice.ensures.items ∙ ap (λ l. l ++ c.head_bytes.result) c.in_ok-bytes.ensures.items ∙ c.head_bytes.ensures in
     indexed_as c.args.format c.args.width c.extend_from_slice.new.self.items c.new.result.items 0 c.result-1.given.0 [] refl (empty_file c.args.format c.args.width c.extend_from_slice.new.self.items c.new.result.items bytes c.new.ensures.items)
 
 pub returns : goal.returns
 returns c =
     let bytes : c.extend_from_slice.new.self.items ≡ column_head (tag_of c.args.format) c.args.width 0 =
-    c.in_ok-extend_from_slice.ensures.items ∙ ap (λ l. l ++ c.head_of.result) c.in_ok-bytes.ensures.items ∙ c.head_of.ensures in
+    c.in_ok-extend_from_slice.ensures.items ∙ ap (λ l. l ++ c.head_bytes.result) c.in_ok-bytes.ensures.items ∙ c.head_bytes.ensures in
     ap (encoding c.args.format c.args.width)
     (stored_is c.args.format c.args.width c.extend_from_slice.new.self.items c.result-1.given.0 [] (empty_file c.args.format c.args.width c.extend_from_slice.new.self.items c.new.result.items bytes c.new.ensures.items).encoded)
