@@ -1,14 +1,16 @@
 //! Queries that have an answer.
 
-use crate::worlds::{FORMATS, column_bytes, example, now_file, query};
+use crate::worlds::{FORMATS, TEXT, column_bytes, example_with, expect, now_file};
 use block_core::Format;
+use std::alloc::{AllocError, Global};
+use std::process::Abort;
 use std::test::Fail;
 
 #[test]
 fn a_query_sums_the_rows_in_the_range(rt: HostRuntime) -> Result<(), Fail> {
-    let alloc = rt.alloc();
+    let mut store = example_with(rt.alloc(), &[])?;
     for (text, answer) in [
-        ("select sum(a) from t where b between 3 and 7", "90\n"),
+        (TEXT, "90\n"),
         ("select sum(a) from t where b between 7 and 3", "NULL\n"),
         ("select sum(a) from t where b between 0 and 100", "150\n"),
         ("select sum(a) from t", "150\n"),
@@ -25,74 +27,102 @@ fn a_query_sums_the_rows_in_the_range(rt: HostRuntime) -> Result<(), Fail> {
             "150\n",
         ),
     ] {
-        let mut store = example(alloc)?;
-        let (status, written) = query(alloc, &mut store, text.as_bytes())?;
-        assert_eq!(rt; status, 0, "{text}");
-        assert_eq!(rt; written.as_slice(), answer.as_bytes(), "{text}");
+        expect(&rt, rt.alloc(), &mut store, text, 0, answer)?;
     }
     Ok(())
 }
 
+/// The sum of two rows is this.
+fn expect_sum(
+    rt: &impl Abort,
+    alloc: Global,
+    values: [u64; 2],
+    status: u8,
+    line: &str,
+) -> Result<(), AllocError> {
+    let a = column_bytes(alloc, &values, Format::Static)?;
+    let b = column_bytes(alloc, &[1, 1], Format::Runs)?;
+    let mut store = example_with(
+        alloc,
+        &[
+            ("t.now", &now_file(2)),
+            ("t.a.a.col", a.as_slice()),
+            ("t.a.b.col", b.as_slice()),
+        ],
+    )?;
+    let text = "select sum(a) from t where b between 0 and 9";
+    expect(rt, alloc, &mut store, text, status, line)
+}
+
 #[test]
 fn a_sum_is_answered_up_to_the_greatest_word(rt: HostRuntime) -> Result<(), Fail> {
-    let alloc = rt.alloc();
-    for (second, status, answer) in [
-        (1, 5, "sum 1 operand 1 group 1: too wide\n"),
-        (0, 0, "18446744073709551615\n"),
-    ] {
-        let mut store = example(alloc)?;
-        store.put(alloc, "t.now", &now_file(2))?;
-        let a = column_bytes(alloc, &[u64::MAX, second], Format::Static)?;
-        store.put(alloc, "t.a.a.col", a.as_slice())?;
-        let b = column_bytes(alloc, &[1, 1], Format::Runs)?;
-        store.put(alloc, "t.a.b.col", b.as_slice())?;
-        let text = b"select sum(a) from t where b between 0 and 9";
-        let (found, written) = query(alloc, &mut store, text)?;
-        assert_eq!(rt; found, status);
-        assert_eq!(rt; written.as_slice(), answer.as_bytes());
-    }
+    let too_wide = "sum 1 operand 1 group 1: too wide\n";
+    expect_sum(&rt, rt.alloc(), [u64::MAX, 1], 5, too_wide)?;
+    expect_sum(&rt, rt.alloc(), [u64::MAX, 0], 0, "18446744073709551615\n")?;
     Ok(())
 }
 
 #[test]
 fn an_empty_table_and_the_other_slot_are_read(rt: HostRuntime) -> Result<(), Fail> {
     let alloc = rt.alloc();
-    let text = b"select sum(a) from t where b between 0 and 9";
-    let mut store = example(alloc)?;
-    store.put(alloc, "t.now", &now_file(0))?;
+    let text = "select sum(a) from t where b between 0 and 9";
     let empty = column_bytes(alloc, &[], Format::Plain)?;
-    store.put(alloc, "t.a.a.col", empty.as_slice())?;
-    store.put(alloc, "t.a.b.col", empty.as_slice())?;
-    let (status, written) = query(alloc, &mut store, text)?;
-    assert_eq!(rt; status, 0);
-    assert_eq!(rt; written.as_slice(), b"NULL\n".as_slice());
-
-    store.put(alloc, "t.now", b"MNOWb\x01\0\0\0\0\0\0\0")?;
     let one = column_bytes(alloc, &[9], Format::Delta1Runs)?;
-    store.put(alloc, "t.b.a.col", one.as_slice())?;
-    store.put(alloc, "t.b.b.col", one.as_slice())?;
-    let (status, written) = query(alloc, &mut store, text)?;
-    assert_eq!(rt; status, 0);
-    assert_eq!(rt; written.as_slice(), b"9\n".as_slice());
+    let mut store = example_with(
+        alloc,
+        &[
+            ("t.now", &now_file(0)),
+            ("t.a.a.col", empty.as_slice()),
+            ("t.a.b.col", empty.as_slice()),
+            ("t.b.a.col", one.as_slice()),
+            ("t.b.b.col", one.as_slice()),
+        ],
+    )?;
+    expect(&rt, alloc, &mut store, text, 0, "NULL\n")?;
+    store.put(alloc, "t.now", b"MNOWb\x01\0\0\0\0\0\0\0")?;
+    expect(&rt, alloc, &mut store, text, 0, "9\n")?;
     Ok(())
 }
 
 #[test]
 fn columns_of_every_format_give_the_same_answer(rt: HostRuntime) -> Result<(), Fail> {
-    let alloc = rt.alloc();
     for format in FORMATS {
-        let mut store = example(alloc)?;
-        let a = column_bytes(alloc, &[10, 20, 30, 40, 50], format)?;
-        store.put(alloc, "t.a.a.col", a.as_slice())?;
-        let text = b"select sum(a) from t where b between 3 and 7";
-        let (status, written) = query(alloc, &mut store, text)?;
-        assert_eq!(rt; status, 0, "{format:?}");
-        assert_eq!(rt; written.as_slice(), b"90\n".as_slice(), "{format:?}");
+        let a = column_bytes(rt.alloc(), &[10, 20, 30, 40, 50], format)?;
+        let mut store = example_with(rt.alloc(), &[("t.a.a.col", a.as_slice())])?;
+        expect(&rt, rt.alloc(), &mut store, TEXT, 0, "90\n")?;
     }
     Ok(())
 }
 
-/// 2,049 rows: `a` is the row's number, and `b` is 1 in each third row.
+/// 2,049 rows in these formats: `a` is the row's number, and `b` is 1 in each third row.
+fn expect_sums_of_blocks<'a>(
+    rt: &impl Abort,
+    alloc: Global,
+    a: &'a [u8],
+    b: &'a [u8],
+) -> Result<(), AllocError> {
+    let mut store = example_with(
+        alloc,
+        &[
+            ("t.now", b"MNOWa\x01\x08\0\0\0\0\0\0"),
+            ("t.a.a.col", a),
+            ("t.a.b.col", b),
+        ],
+    )?;
+    for (text, answer) in [
+        ("select sum(a) from t", "2098176\n"),
+        ("select sum(a) from t where b between 1 and 1", "698709\n"),
+        ("select sum(b) from t where a between 1023 and 1025", "1\n"),
+        (
+            "select sum(a) from t where a between 2048 and 2048",
+            "2048\n",
+        ),
+    ] {
+        expect(rt, alloc, &mut store, text, 0, answer)?;
+    }
+    Ok(())
+}
+
 #[test]
 fn whole_blocks_of_every_format_are_summed(rt: HostRuntime) -> Result<(), Fail> {
     let alloc = rt.alloc();
@@ -102,36 +132,10 @@ fn whole_blocks_of_every_format_are_summed(rt: HostRuntime) -> Result<(), Fail> 
         numbers.push(row)?;
         thirds.push(u64::from(row % 3 == 0))?;
     }
-    for (a, b) in FORMATS.iter().zip(FORMATS.iter().rev()) {
-        let mut store = example(alloc)?;
-        store.put(alloc, "t.now", b"MNOWa\x01\x08\0\0\0\0\0\0")?;
-        store.put(
-            alloc,
-            "t.a.a.col",
-            column_bytes(alloc, numbers.as_slice(), *a)?.as_slice(),
-        )?;
-        store.put(
-            alloc,
-            "t.a.b.col",
-            column_bytes(alloc, thirds.as_slice(), *b)?.as_slice(),
-        )?;
-        for (text, answer) in [
-            ("select sum(a) from t", "2098176\n"),
-            ("select sum(a) from t where b between 1 and 1", "698709\n"),
-            ("select sum(b) from t where a between 1023 and 1025", "1\n"),
-            (
-                "select sum(a) from t where a between 2048 and 2048",
-                "2048\n",
-            ),
-        ] {
-            let (status, written) = query(alloc, &mut store, text.as_bytes())?;
-            assert_eq!(rt; status, 0, "{text} over {a:?} and {b:?}");
-            assert_eq!(rt;
-                written.as_slice(),
-                answer.as_bytes(),
-                "{text} over {a:?} and {b:?}"
-            );
-        }
+    for (format, other) in FORMATS.iter().zip(FORMATS.iter().rev()) {
+        let a = column_bytes(alloc, numbers.as_slice(), *format)?;
+        let b = column_bytes(alloc, thirds.as_slice(), *other)?;
+        expect_sums_of_blocks(&rt, alloc, a.as_slice(), b.as_slice())?;
     }
     Ok(())
 }

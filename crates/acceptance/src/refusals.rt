@@ -1,17 +1,15 @@
 //! Texts, words and files out of form.
 
-use crate::worlds::{column_bytes, example, example_without, query, sink, source};
+use crate::worlds::{TEXT, column_bytes, command, example_with, example_without, expect, source};
 use block_core::Format;
-use engine_tool::run;
 use std::alloc::{AllocError, Global};
 use std::process::Abort;
 use std::test::Fail;
-
-const TEXT: &[u8] = b"select sum(a) from t where b between 3 and 7";
+use stream_core::{List, MemSink};
 
 #[test]
 fn a_text_of_another_form_is_refused(rt: HostRuntime) -> Result<(), Fail> {
-    let alloc = rt.alloc();
+    let mut store = example_with(rt.alloc(), &[])?;
     for text in [
         "",
         " ",
@@ -33,14 +31,7 @@ fn a_text_of_another_form_is_refused(rt: HostRuntime) -> Result<(), Fail> {
         "select sum(t.a) from t where b between 3 and 7",
         "select sum(\u{e4}) from t where b between 3 and 7",
     ] {
-        let mut store = example(alloc)?;
-        let (status, written) = query(alloc, &mut store, text.as_bytes())?;
-        assert_eq!(rt; status, 1, "{text}");
-        assert_eq!(rt;
-            written.as_slice(),
-            b"query: not built\n".as_slice(),
-            "{text}"
-        );
+        expect(&rt, rt.alloc(), &mut store, text, 1, "query: not built\n")?;
     }
     Ok(())
 }
@@ -48,48 +39,62 @@ fn a_text_of_another_form_is_refused(rt: HostRuntime) -> Result<(), Fail> {
 #[test]
 fn a_text_has_at_most_65536_bytes(rt: HostRuntime) -> Result<(), Fail> {
     let alloc = rt.alloc();
-    let mut text = Vec::from_slice(alloc, TEXT)?;
-    text.resize(65_536, b' ')?;
-    let mut store = example(alloc)?;
-    let (status, written) = query(alloc, &mut store, text.as_slice())?;
-    assert_eq!(rt; status, 0);
-    assert_eq!(rt; written.as_slice(), b"90\n".as_slice());
-    text.push(b' ')?;
-    let (status, written) = query(alloc, &mut store, text.as_slice())?;
-    assert_eq!(rt; status, 1);
-    assert_eq!(rt; written.as_slice(), b"query: not built\n".as_slice());
+    let mut store = example_with(alloc, &[])?;
+    let mut text = String::from_str(alloc, TEXT)?;
+    for _ in TEXT.len()..65_536 {
+        text.push(' ')?;
+    }
+    expect(&rt, alloc, &mut store, text.as_str(), 0, "90\n")?;
+    text.push(' ')?;
+    expect(
+        &rt,
+        alloc,
+        &mut store,
+        text.as_str(),
+        1,
+        "query: not built\n",
+    )?;
+    Ok(())
+}
+
+/// The words of a command line.
+fn words_of(alloc: Global, words: &[&str]) -> Result<Vec<String>, AllocError> {
+    let mut list = Vec::new(alloc);
+    for word in words {
+        list.push(String::from_str(alloc, word)?)?;
+    }
+    Ok(list)
+}
+
+/// The words are no command, and the input is left to the next one.
+fn no_command(rt: &impl Abort, alloc: Global, words: &[&str]) -> Result<(), AllocError> {
+    let mut store = example_with(alloc, &[])?;
+    let mut input = source(alloc, TEXT.as_bytes(), &[])?;
+    for (words, status, line) in [
+        (words, 2, "usage: see morphq help\n"),
+        (["query"].as_slice(), 0, "90\n"),
+    ] {
+        let list = words_of(alloc, words)?;
+        let mut out = MemSink::new(alloc, 100, List::from_vec(Vec::new(alloc)))?;
+        let (found, written) = command(alloc, list.as_slice(), &mut store, &mut input, &mut out)?;
+        assert_eq!(rt; found, status, "{words:?}");
+        assert_eq!(rt; written.as_slice(), line.as_bytes(), "{words:?}");
+    }
     Ok(())
 }
 
 #[test]
 fn other_words_are_no_command_and_leave_the_input_unread(rt: HostRuntime) -> Result<(), Fail> {
-    let alloc = rt.alloc();
-    for (first, second) in [
-        (None, None),
-        (Some("help"), None),
-        (Some("Query"), None),
-        (Some(""), None),
-        (Some("query"), Some("t")),
-        (Some("query"), Some("")),
-        (Some("quer"), Some("y")),
+    for words in [
+        [].as_slice(),
+        &["help"],
+        &["Query"],
+        &[""],
+        &["query", "t"],
+        &["query", ""],
+        &["quer", "y"],
     ] {
-        let mut words = Vec::new(alloc);
-        if let Some(word) = first {
-            words.push(String::from_str(alloc, word)?)?;
-        }
-        if let Some(word) = second {
-            words.push(String::from_str(alloc, word)?)?;
-        }
-        let mut store = example(alloc)?;
-        let mut input = source(alloc, TEXT)?;
-        let mut out = sink(alloc)?;
-        let status = run(alloc, words.as_slice(), &mut store, &mut input, &mut out);
-        assert_eq!(rt; status, 2);
-        assert_eq!(rt; out.taken(), b"usage: see morphq help\n".as_slice());
-        let query_word = [String::from_str(alloc, "query")?];
-        let mut out = sink(alloc)?;
-        let status = run(alloc, &query_word, &mut store, &mut input, &mut out);
-        assert_eq!(rt; status, 0, "the input was left unread");
+        no_command(&rt, rt.alloc(), words)?;
     }
     Ok(())
 }
@@ -102,11 +107,8 @@ fn refused(
     bytes: &[u8],
     line: &str,
 ) -> Result<(), AllocError> {
-    let mut store = example(alloc)?;
-    store.put(alloc, name, bytes)?;
-    let (status, written) = query(alloc, &mut store, TEXT)?;
-    assert_eq!(rt; status, 4, "{name} as {bytes:?}");
-    assert_eq!(rt; written.as_slice(), line.as_bytes(), "{name} as {bytes:?}");
+    let mut store = example_with(alloc, &[(name, bytes)])?;
+    expect(rt, alloc, &mut store, TEXT, 4, line)?;
     assert_eq!(rt; store.file(name).expect(rt, "the file is there"), bytes);
     Ok(())
 }
@@ -200,13 +202,9 @@ fn the_first_bad_file_is_named(rt: HostRuntime) -> Result<(), Fail> {
             "database: t.a.b.col: bad header\n",
         ),
     ] {
-        let mut store = example(alloc)?;
-        store.put(alloc, "t.now", now)?;
-        store.put(alloc, "t.a.a.col", a)?;
-        store.put(alloc, "t.a.b.col", b)?;
-        let (status, written) = query(alloc, &mut store, TEXT)?;
-        assert_eq!(rt; status, 4, "{line}");
-        assert_eq!(rt; written.as_slice(), line.as_bytes());
+        let files = [("t.now", now), ("t.a.a.col", a), ("t.a.b.col", b)];
+        let mut store = example_with(alloc, &files)?;
+        expect(&rt, alloc, &mut store, TEXT, 4, line)?;
     }
     Ok(())
 }
@@ -214,12 +212,9 @@ fn the_first_bad_file_is_named(rt: HostRuntime) -> Result<(), Fail> {
 /// Only the named columns are read.
 #[test]
 fn a_bad_column_that_no_query_names_is_no_fault(rt: HostRuntime) -> Result<(), Fail> {
-    let alloc = rt.alloc();
-    let mut store = example(alloc)?;
-    store.put(alloc, "t.a.b.col", b"no column")?;
-    let (status, written) = query(alloc, &mut store, b"select sum(a) from t")?;
-    assert_eq!(rt; status, 0);
-    assert_eq!(rt; written.as_slice(), b"150\n".as_slice());
+    let mut store = example_with(rt.alloc(), &[("t.a.b.col", b"no column")])?;
+    let text = "select sum(a) from t";
+    expect(&rt, rt.alloc(), &mut store, text, 0, "150\n")?;
     Ok(())
 }
 
@@ -241,16 +236,13 @@ fn a_file_cut_at_any_byte_is_refused(rt: HostRuntime) -> Result<(), Fail> {
 
 #[test]
 fn a_missing_file_is_refused(rt: HostRuntime) -> Result<(), Fail> {
-    let alloc = rt.alloc();
     for (missing, line) in [
         ("t.now", "database: t.now: no file\n"),
         ("t.a.a.col", "database: t.a.a.col: no file\n"),
         ("t.a.b.col", "database: t.a.b.col: no file\n"),
     ] {
-        let mut store = example_without(alloc, missing)?;
-        let (status, written) = query(alloc, &mut store, TEXT)?;
-        assert_eq!(rt; status, 4, "without {missing}");
-        assert_eq!(rt; written.as_slice(), line.as_bytes());
+        let mut store = example_without(rt.alloc(), missing, &[])?;
+        expect(&rt, rt.alloc(), &mut store, TEXT, 4, line)?;
     }
     Ok(())
 }

@@ -9,8 +9,6 @@ mod plain_blocks;
 mod static_blocks;
 mod widths;
 mod words;
-#[cfg(test)]
-mod worked_blocks;
 
 pub use dynamic_blocks::Dynamic;
 pub use plain_blocks::Words;

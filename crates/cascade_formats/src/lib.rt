@@ -8,8 +8,6 @@ mod cascades;
 mod deltas;
 mod differences;
 mod references;
-#[cfg(test)]
-mod worked_blocks;
 
 pub use cascades::Cascade;
 pub use deltas::{Delta1, Delta16};

@@ -5,7 +5,5 @@
 #![tactic(auto)]
 
 mod vectors;
-#[cfg(test)]
-mod worked_lanes;
 
 pub use vectors::Lanes;

@@ -5,8 +5,6 @@ mod cells;
 mod pairs;
 mod reading;
 mod run_blocks;
-#[cfg(test)]
-mod worked_runs;
 mod writing;
 
 pub use pairs::RunIter;

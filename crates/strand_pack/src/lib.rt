@@ -7,8 +7,6 @@
 
 mod packing;
 mod picking;
-#[cfg(test)]
-mod round_trips;
 mod unpacking;
 mod widths;
 mod words;

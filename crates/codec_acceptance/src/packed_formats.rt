@@ -2,8 +2,8 @@
 
 ghost use Rattle.std.specs.Prelude.{◌≡◌, ◌≤◌, length, IfSome};
 
-use crate::{Dynamic, Static, Words};
 use block_core::{Block, Packing};
+use block_formats::{Dynamic, Static, Words};
 use std::alloc::{AllocError, Global};
 use std::test::Fail;
 

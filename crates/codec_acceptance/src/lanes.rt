@@ -2,7 +2,7 @@
 
 ghost use Rattle.std.specs.Prelude.{◌≡◌, ◌≤◌, length};
 
-use crate::Lanes;
+use lane_core::Lanes;
 use std::process::Abort;
 use std::test::Fail;
 

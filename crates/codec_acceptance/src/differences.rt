@@ -1,15 +1,19 @@
-//! The transforms at blocks whose base and differences were worked out by hand, and a cascade over a small packing.
+//! The transforms at blocks whose base and differences were worked out by hand.
 
-ghost use Rattle.std.specs.Prelude.{◌≡◌, length};
+ghost use Rattle.std.specs.Prelude.{◌≡◌, ◌<◌, ◌^◌, ℕ, length, slice_index};
 ghost use Rattle.definitions.specs.Blocks.{block_len};
 
-use crate::differences::words_fit;
-use crate::{Delta1, Delta16, Reference};
 use block_core::{Block, Transform};
+use cascade_formats::{Delta1, Delta16, Reference};
 use std::process::Abort;
 use std::test::Fail;
 
 const MOST: u64 = u64::MAX;
+
+// That a value is below 2^64 follows from the type of a slice. A call tells it to the proof.
+fn words_fit(values: &[u64])
+    ensures { (place : ℕ) → slice_index values.now place < 2 ^ 64 }
+{}
 
 // Each value is the one before and a step, mod 2^64.
 fn rising(first: u64, step: u64) -> Block

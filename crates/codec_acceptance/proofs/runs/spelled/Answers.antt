@@ -1,7 +1,7 @@
 use Rattle.std.proofs.Common.{◌∙◌, arith}
 use Rattle.definitions.specs.Runs.{run_count, IsRunsBlock}
 use Rattle.definitions.proofs.RunLaws.{IsRunCount, runs_of, runs_spelling, IsFull-run_count, IsRunsBlock-length, IsRunsBlock-spelling}
-use Rattle.run_formats.proofs.worked_runs.spelled.Goals as goal
+use Rattle.codec_acceptance.proofs.runs.spelled.Goals as goal
 
 pub byte_len-requires : goal.byte_len-requires
 byte_len-requires c =

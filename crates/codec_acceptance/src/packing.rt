@@ -4,11 +4,11 @@ ghost use Rattle.std.specs.Prelude.{◌≡◌, ◌*◌, ◌≤◌, length, IfOk}
 ghost use Rattle.definitions.specs.Blocks.{block_len};
 ghost use Rattle.definitions.specs.Packed.{AreBelow};
 
-use crate::{pack, pick, unpack, width_of};
 use block_core::Block;
 use std::alloc::{AllocError, Global};
 use std::process::Abort;
 use std::test::Fail;
+use strand_pack::{pack, pick, unpack, width_of};
 
 const EVEN_BITS: u64 = 0x5555_5555_5555_5555;
 

@@ -1,5 +1,5 @@
 use Rattle.definitions.proofs.DifferenceLaws.{full_from}
-use Rattle.cascade_formats.proofs.worked_blocks.goes_round.Goals as goal
+use Rattle.codec_acceptance.proofs.differences.goes_round.Goals as goal
 
 pub join-requires : goal.join-requires
 join-requires g c = (

@@ -5,8 +5,8 @@ ghost use Rattle.definitions.specs.Blocks.{IsFull};
 ghost use Rattle.definitions.specs.Runs.{AreRunsOf, IsRunsBlock};
 ghost use Rattle.run_formats.specs.Cells.{run_of};
 
-use crate::{RunIter, Runs};
 use block_core::{Block, Packing};
+use run_formats::{RunIter, Runs};
 use std::alloc::{AllocError, Global};
 use std::test::Fail;
 

@@ -3,7 +3,7 @@ use Rattle.std.specs.List.{AllByRecursion, refill}
 use Rattle.std.proofs.lemmas.List.{take_at}
 use Rattle.definitions.specs.Blocks.{IsFull}
 use Rattle.definitions.specs.Columns.{IsWord}
-use Rattle.run_formats.proofs.worked_runs.block_of.Goals as goal
+use Rattle.codec_acceptance.proofs.runs.block_of.Goals as goal
 
 words : (values : List ℕ) → ((k : ℕ) → get_or values k 0 < 2 ^ 64) → AllByRecursion IsWord values
 words [] fit = tt

@@ -3,7 +3,7 @@ use Rattle.std.proofs.lemmas.Iterator.Consumers.{YieldsList-from_first, map_from
 use Rattle.std.proofs.lemmas.Result.{IfOk-weaker}
 use Rattle.definitions.specs.Runs.{AreRunsOf, IsRunsBlock}
 use Rattle.run_formats.specs.Cells.{run_of, runs_left}
-use Rattle.run_formats.proofs.worked_runs.pairs_of.Goals as goal
+use Rattle.codec_acceptance.proofs.runs.pairs_of.Goals as goal
 
 pub returns : goal.returns
 returns c =
