@@ -1,5 +1,5 @@
 -- The laws of packings and transforms, and what a check and a fetch say.
-use Rattle.std.specs.Prelude.{◌≡◌, ℕ, ◌+◌, ◌<◌, ◌≤◌, Bool, true, List, ◌++◌, length, take, slice_index}
+use Rattle.std.specs.Prelude.{◌≡◌, ℕ, ◌<◌, ◌≤◌, Bool, true, List, ◌++◌, length, take, slice_index}
 use Rattle.definitions.specs.Blocks.{IsFull}
 
 -- The laws of a relation between full blocks and bytes under a param, in which each block has a head: what is related is a

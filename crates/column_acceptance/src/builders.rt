@@ -6,8 +6,10 @@ ghost use Rattle.definitions.specs.Columns.{max_rows};
 use crate::files::FORMATS;
 use crate::generic::push_all;
 use crate::shapes::Shape;
+use block_core::Format;
 use column_core::{Builder, Column, encode_list};
 use std::alloc::{AllocError, Global};
+use std::process::Abort;
 use std::test::Fail;
 
 // The column of the same list, format and width, whose values are pushed one by one through the bound of an emitter.
@@ -19,6 +21,39 @@ fn built(alloc: Global, column: &Column, values: &[u64]) -> Result<Column, Alloc
     let mut builder = Builder::new(alloc, column.format(), column.static_width())?;
     push_all(&mut builder, values)?;
     builder.finish()
+}
+
+// The values are pushed into a builder of this format.
+fn expect_built(
+    rt: &impl Abort,
+    alloc: Global,
+    values: &[u64],
+    format: Format,
+) -> Result<(), AllocError>
+    requires few { length values.now ≤ max_rows }
+{
+    let column = encode_list(alloc, values, format)?;
+    let built = built(alloc, &column, values)?;
+    assert_eq!(rt;
+        built.encoded(),
+        column.encoded(),
+        "{} values in {format:?}",
+        values.len()
+    );
+    Ok(())
+}
+
+fn expect_built_in_every_format(
+    rt: &impl Abort,
+    alloc: Global,
+    shape: Shape,
+    count: u16,
+) -> Result<(), AllocError> {
+    let values = shape.values(alloc, count)?;
+    for format in FORMATS {
+        expect_built(rt, alloc, values.as_slice(), format)?;
+    }
+    Ok(())
 }
 
 #[test]
@@ -33,16 +68,7 @@ fn values_pushed_one_by_one_give_the_file_of_the_list(rt: HostRuntime) -> Result
         },
     ] {
         for count in [0, 1, 1023, 1024, 1025, 2049u16] {
-            let values = shape.values(rt.alloc(), count)?;
-            for format in FORMATS {
-                let column = encode_list(rt.alloc(), values.as_slice(), format)?;
-                let built = built(rt.alloc(), &column, values.as_slice())?;
-                assert_eq!(rt;
-                    built.encoded(),
-                    column.encoded(),
-                    "{count} values of {shape:?} in {format:?}"
-                );
-            }
+            expect_built_in_every_format(&rt, rt.alloc(), shape, count)?;
         }
     }
     Ok(())

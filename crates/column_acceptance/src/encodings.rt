@@ -1,9 +1,13 @@
 //! Files whose lengths and bytes were worked out by hand.
 
+ghost use Rattle.std.specs.Prelude.{◌≤◌, length};
+ghost use Rattle.definitions.specs.Columns.{max_rows};
+
 use crate::files::{FORMATS, file_of, head};
 use crate::shapes::Shape;
 use block_core::Format;
 use column_core::{Column, encode_list};
+use std::alloc::{AllocError, Global};
 use std::process::Abort;
 use std::test::Fail;
 
@@ -23,10 +27,8 @@ fn a_column_of_no_values_is_its_head_in_every_format(rt: HostRuntime) -> Result<
         (Format::Delta1Runs, b"MCOL\x01\x07\0\0\0\0\0\0\0\0\0\0"),
     ] {
         let column = encode_list(rt.alloc(), &[], format)?;
-        assert_eq!(rt; column.encoded(), expected.as_slice(), "{format:?}");
-        assert_eq!(rt; column.format(), format);
-        assert_eq!(rt; column.count(), 0, "{format:?}");
-        assert_eq!(rt; column.static_width(), 0, "{format:?}");
+        assert_eq!(rt; column.encoded(), expected.as_slice());
+        expect_column(&rt, &column, format, 0, 0, 16);
     }
     Ok(())
 }
@@ -55,14 +57,13 @@ fn expect_column(
     } else {
         0
     };
-    assert_eq!(rt; column.format(), format);
-    assert_eq!(rt; column.count(), u64::from(count), "{format:?}");
-    assert_eq!(rt;
+    let found = (
+        column.format(),
+        column.count(),
         column.static_width(),
-        width,
-        "{count} values in {format:?}"
+        column.encoded().len(),
     );
-    assert_eq!(rt; column.encoded().len(), len, "{count} values in {format:?}");
+    assert_eq!(rt; found, (format, u64::from(count), width, len));
 }
 
 // At i mod 5 a difference is 1 or 4 less than 0, also to the value 16 places before, so it has all 64 bits. The runs of
@@ -100,6 +101,21 @@ fn every_count_takes_the_bytes_that_were_worked_out(rt: HostRuntime) -> Result<(
     Ok(())
 }
 
+// The file of these values has so many bytes.
+fn expect_len(
+    rt: &impl Abort,
+    alloc: Global,
+    values: &[u64],
+    format: Format,
+    len: usize,
+) -> Result<(), AllocError>
+    requires few { length values.now ≤ max_rows }
+{
+    let column = encode_list(alloc, values, format)?;
+    assert_eq!(rt; column.encoded().len(), len, "{format:?}");
+    Ok(())
+}
+
 #[test]
 fn each_format_takes_the_bytes_that_were_worked_out(rt: HostRuntime) -> Result<(), Fail> {
     for (shape, count, sizes) in [
@@ -121,8 +137,7 @@ fn each_format_takes_the_bytes_that_were_worked_out(rt: HostRuntime) -> Result<(
     ] {
         let values = shape.values(rt.alloc(), count)?;
         for (format, size) in FORMATS.iter().zip(sizes.iter()) {
-            let column = encode_list(rt.alloc(), values.as_slice(), *format)?;
-            assert_eq!(rt; column.encoded().len(), *size, "{shape:?} in {format:?}");
+            expect_len(&rt, rt.alloc(), values.as_slice(), *format, *size)?;
         }
     }
     Ok(())

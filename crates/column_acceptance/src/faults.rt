@@ -1,10 +1,15 @@
 //! Bytes that are no column file, and the first fault of each.
 
+ghost use Rattle.std.specs.Prelude.{◌≡◌, ◌≤◌, length};
+ghost use Rattle.definitions.specs.Columns.{max_rows};
+
 use crate::files::{FORMATS, fault_of, file_of, head, packed};
 use crate::shapes::Shape;
 use block_core::Format;
 use column_core::encode_list;
 use column_file::ColumnError;
+use std::alloc::Global;
+use std::process::Abort;
 use std::test::Fail;
 
 // Two runs of 512 times 5, which would be one.
@@ -28,15 +33,45 @@ const WIDTH: Option<ColumnError> = Some(ColumnError::BadWidth);
 
 const TAIL: Option<ColumnError> = Some(ColumnError::BadTail);
 
+// The bytes have this first fault, or none.
+fn expect_fault(
+    rt: &impl Abort,
+    alloc: Global,
+    bytes: &[u8],
+    expected: Option<ColumnError>,
+) -> Result<(), ColumnError> {
+    let fault = fault_of(alloc, bytes)?;
+    let head = bytes.get(..16).unwrap_or(bytes);
+    assert_eq!(rt;
+        fault,
+        expected,
+        "{} bytes that begin with {head:?}",
+        bytes.len()
+    );
+    Ok(())
+}
+
+// So has the file of this head and these parts.
+fn expect_file_fault(
+    rt: &impl Abort,
+    alloc: Global,
+    head: [u8; 16],
+    first: &[u8],
+    second: &[u8],
+    expected: Option<ColumnError>,
+) -> Result<(), ColumnError> {
+    let bytes = file_of(alloc, head, first, second, b"")?;
+    expect_fault(rt, alloc, bytes.as_slice(), expected)
+}
+
 #[test]
 fn fewer_than_sixteen_bytes_are_no_head(rt: HostRuntime) -> Result<(), Fail> {
     for format in FORMATS {
         let bytes = head(format.tag(), 0, 0);
         for len in 0..16 {
-            let fault = fault_of(rt.alloc(), &bytes[..len])?;
-            assert_eq!(rt; fault, HEADER, "{len} bytes of a head in {format:?}");
+            expect_fault(&rt, rt.alloc(), &bytes[..len], HEADER)?;
         }
-        assert_eq!(rt; fault_of(rt.alloc(), &bytes)?, None, "a head in {format:?}");
+        expect_fault(&rt, rt.alloc(), &bytes, None)?;
     }
     Ok(())
 }
@@ -64,8 +99,7 @@ fn a_head_with_another_byte_among_the_first_eight_is_refused(rt: HostRuntime) ->
             let mut bytes = head(format.tag(), 0, 0);
             assert!(rt; place < 8);
             bytes[place] = byte;
-            let fault = fault_of(rt.alloc(), &bytes)?;
-            assert_eq!(rt; fault, HEADER, "{byte} at place {place} in {format:?}");
+            expect_fault(&rt, rt.alloc(), &bytes, HEADER)?;
         }
     }
     Ok(())
@@ -78,8 +112,7 @@ fn a_count_above_268435456_is_refused(rt: HostRuntime) -> Result<(), Fail> {
     for format in FORMATS {
         for count in [268_435_457, 1 << 32, 1 << 61, u64::MAX] {
             let bytes = head(format.tag(), 0, count);
-            let fault = fault_of(rt.alloc(), &bytes)?;
-            assert_eq!(rt; fault, HEADER, "{count} values in {format:?}");
+            expect_fault(&rt, rt.alloc(), &bytes, HEADER)?;
         }
         let bytes = head(format.tag(), 0, 268_435_456);
         let expected = if format == Format::Static {
@@ -87,8 +120,7 @@ fn a_count_above_268435456_is_refused(rt: HostRuntime) -> Result<(), Fail> {
         } else {
             FIRST
         };
-        let fault = fault_of(rt.alloc(), &bytes)?;
-        assert_eq!(rt; fault, expected, "the greatest count in {format:?}");
+        expect_fault(&rt, rt.alloc(), &bytes, expected)?;
     }
     Ok(())
 }
@@ -110,9 +142,7 @@ fn a_first_block_of_bits_that_is_none_is_refused(rt: HostRuntime) -> Result<(), 
         (6, &FIVE_AT_ONE, &ones),
         (6, b"\xff\xff\xff\xff\xff\xff\xff\xff\x01", &first),
     ] {
-        let bytes = file_of(rt.alloc(), head(tag, 0, 1024), front, packed, b"")?;
-        let fault = fault_of(rt.alloc(), bytes.as_slice())?;
-        assert_eq!(rt; fault, FIRST, "tag {tag} with {front:?}");
+        expect_file_fault(&rt, rt.alloc(), head(tag, 0, 1024), front, packed, FIRST)?;
     }
     Ok(())
 }
@@ -128,9 +158,7 @@ fn a_first_block_of_runs_that_is_none_is_refused(rt: HostRuntime) -> Result<(), 
         (7, b"\0\0\0\0\0\0\0\0\0\0"),
         (7, b"\0\0\0\0\0\0\0\0\x01\0\x07\0\0\0\0\0\0\0\0\x04"),
     ] {
-        let bytes = file_of(rt.alloc(), head(tag, 0, 1024), runs, b"", b"")?;
-        let fault = fault_of(rt.alloc(), bytes.as_slice())?;
-        assert_eq!(rt; fault, FIRST, "tag {tag} with {runs:?}");
+        expect_file_fault(&rt, rt.alloc(), head(tag, 0, 1024), runs, b"", FIRST)?;
     }
     Ok(())
 }
@@ -139,15 +167,26 @@ fn a_first_block_of_runs_that_is_none_is_refused(rt: HostRuntime) -> Result<(), 
 #[test]
 fn a_second_block_wider_than_its_values_is_refused(rt: HostRuntime) -> Result<(), Fail> {
     let packed = packed(rt.alloc(), 12, 2047)?;
-    let bytes = file_of(
-        rt.alloc(),
-        head(2, 0, 2048),
-        b"\0\x0c",
-        packed.as_slice(),
-        b"",
-    )?;
-    assert_eq!(rt; fault_of(rt.alloc(), bytes.as_slice())?, SECOND);
+    let head = head(2, 0, 2048);
+    expect_file_fault(&rt, rt.alloc(), head, b"\0\x0c", packed.as_slice(), SECOND)?;
     Ok(())
+}
+
+// A block of these values and then these bytes are no two blocks.
+fn expect_second_fault(
+    rt: &impl Abort,
+    alloc: Global,
+    values: &[u64],
+    format: Format,
+    front: &[u8],
+    packed: &[u8],
+) -> Result<(), ColumnError>
+    requires { length values.now ≡ 1024 }
+{
+    let column = encode_list(alloc, values, format)?;
+    let head = head(format.tag(), column.static_width(), 2048);
+    let bytes = file_of(alloc, head, column.block_bytes(0), front, packed)?;
+    expect_fault(rt, alloc, bytes.as_slice(), SECOND)
 }
 
 #[test]
@@ -167,15 +206,7 @@ fn a_second_block_that_is_none_is_refused_in_every_format(rt: HostRuntime) -> Re
         (Format::ReferenceDynamic, &FIVE_AT_ONE, ones.as_slice()),
         (Format::Delta1Runs, b"\0\0\0\0\0\0\0\0", &EQUAL_RUNS),
     ] {
-        let column = encode_list(rt.alloc(), values.as_slice(), format)?;
-        assert_eq!(rt; column.count(), 1024);
-        let head = head(format.tag(), column.static_width(), 2048);
-        let bytes = file_of(rt.alloc(), head, column.block_bytes(0), front, packed)?;
-        assert_eq!(rt;
-            fault_of(rt.alloc(), bytes.as_slice())?,
-            SECOND,
-            "{format:?}"
-        );
+        expect_second_fault(&rt, rt.alloc(), values.as_slice(), format, front, packed)?;
     }
     Ok(())
 }
@@ -198,9 +229,7 @@ fn a_static_width_above_the_least_is_refused(rt: HostRuntime) -> Result<(), Fail
         (4, 1025, sevens.as_slice(), WIDTH),
         (4, 2048, sevens.as_slice(), SECOND),
     ] {
-        let bytes = file_of(rt.alloc(), head(1, width, count), body, b"", b"")?;
-        let fault = fault_of(rt.alloc(), bytes.as_slice())?;
-        assert_eq!(rt; fault, expected, "{count} values at width {width}");
+        expect_file_fault(&rt, rt.alloc(), head(1, width, count), body, b"", expected)?;
     }
     Ok(())
 }
@@ -211,12 +240,9 @@ fn a_static_width_above_the_least_is_refused(rt: HostRuntime) -> Result<(), Fail
 fn another_static_width_over_the_same_bytes_is_refused(rt: HostRuntime) -> Result<(), Fail> {
     let values = Shape::Cycling(5).values(rt.alloc(), 1024)?;
     let column = encode_list(rt.alloc(), values.as_slice(), Format::Static)?;
-    assert_eq!(rt; column.count(), 1024);
+    let block = column.block_bytes(0);
     for (width, expected) in [(2, TAIL), (3, None), (4, FIRST)] {
-        let head = head(1, width, 1024);
-        let bytes = file_of(rt.alloc(), head, column.block_bytes(0), b"", b"")?;
-        let fault = fault_of(rt.alloc(), bytes.as_slice())?;
-        assert_eq!(rt; fault, expected, "width {width}");
+        expect_file_fault(&rt, rt.alloc(), head(1, width, 1024), block, b"", expected)?;
     }
     Ok(())
 }
@@ -238,14 +264,45 @@ fn a_tail_of_another_length_is_refused(rt: HostRuntime) -> Result<(), Fail> {
         ] {
             let tail = vec![in rt.alloc(); 9; len]?;
             let head = head(format.tag(), 0, count);
-            let bytes = file_of(rt.alloc(), head, tail.as_slice(), b"", b"")?;
-            let fault = fault_of(rt.alloc(), bytes.as_slice())?;
-            assert_eq!(rt;
-                fault,
-                expected,
-                "{count} values and {len} bytes in {format:?}"
-            );
+            expect_file_fault(&rt, rt.alloc(), head, tail.as_slice(), b"", expected)?;
         }
+    }
+    Ok(())
+}
+
+// A file with another count in its head.
+fn expect_count_faults(
+    rt: &impl Abort,
+    alloc: Global,
+    values: &[u64],
+    format: Format,
+) -> Result<(), ColumnError>
+    requires few { length values.now ≤ max_rows }
+{
+    let column = encode_list(alloc, values, format)?;
+    let body = column.encoded().get(16..).unwrap_or(b"");
+    let no_block = if format == Format::Static {
+        WIDTH
+    } else {
+        TAIL
+    };
+    for (count, expected) in [
+        (0, no_block),
+        (5, no_block),
+        (1023, no_block),
+        (1024, TAIL),
+        (1025, TAIL),
+        (2047, TAIL),
+        (2048, TAIL),
+        (2049, None),
+        (2050, TAIL),
+        (3071, TAIL),
+        (3072, THIRD),
+        (268_435_456, THIRD),
+        (268_435_457, HEADER),
+    ] {
+        let head = head(format.tag(), column.static_width(), count);
+        expect_file_fault(rt, alloc, head, body, b"", expected)?;
     }
     Ok(())
 }
@@ -256,34 +313,7 @@ fn a_tail_of_another_length_is_refused(rt: HostRuntime) -> Result<(), Fail> {
 fn a_count_that_lies_is_refused_in_every_format(rt: HostRuntime) -> Result<(), Fail> {
     let values = Shape::Cycling(5).values(rt.alloc(), 2049)?;
     for format in FORMATS {
-        let column = encode_list(rt.alloc(), values.as_slice(), format)?;
-        let encoded = column.encoded();
-        assert!(rt; encoded.len() > 16);
-        let no_block = if format == Format::Static {
-            WIDTH
-        } else {
-            TAIL
-        };
-        for (count, expected) in [
-            (0, no_block),
-            (5, no_block),
-            (1023, no_block),
-            (1024, TAIL),
-            (1025, TAIL),
-            (2047, TAIL),
-            (2048, TAIL),
-            (2049, None),
-            (2050, TAIL),
-            (3071, TAIL),
-            (3072, THIRD),
-            (268_435_456, THIRD),
-            (268_435_457, HEADER),
-        ] {
-            let head = head(format.tag(), column.static_width(), count);
-            let bytes = file_of(rt.alloc(), head, &encoded[16..], b"", b"")?;
-            let fault = fault_of(rt.alloc(), bytes.as_slice())?;
-            assert_eq!(rt; fault, expected, "the count {count} in {format:?}");
-        }
+        expect_count_faults(&rt, rt.alloc(), values.as_slice(), format)?;
     }
     Ok(())
 }

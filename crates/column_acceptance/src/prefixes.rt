@@ -36,13 +36,14 @@ impl Borders {
     }
 }
 
+// A file that is cut is refused for the part that is cut.
 fn expect_faults(
     rt: &impl Abort,
     alloc: Global,
     bytes: &[u8],
     borders: Borders,
     format: Format,
-) -> Result<(), Fail> {
+) -> Result<(), ColumnError> {
     for len in 0..bytes.len() {
         if borders.is_tried(len) {
             assert_eq!(rt;
@@ -55,10 +56,27 @@ fn expect_faults(
     Ok(())
 }
 
+// The file of 2,049 values, whose two blocks have these lengths.
+fn expect_cut(
+    rt: &impl Abort,
+    alloc: Global,
+    format: Format,
+    first: u16,
+    second: u16,
+) -> Result<(), ColumnError> {
+    let values = Shape::Cycling(5).values(alloc, 2049)?;
+    let column = encode_list(alloc, values.as_slice(), format)?;
+    let borders = Borders {
+        first: 16 + first as usize,
+        second: 16 + first as usize + second as usize,
+    };
+    assert_eq!(rt; column.encoded().len(), borders.second + 8, "{format:?}");
+    expect_faults(rt, alloc, column.encoded(), borders, format)
+}
+
 // The blocks have the lengths that `encodings` tells of, and 2,048 mod 5 is the tail.
 #[test]
 fn a_file_that_is_cut_is_refused_for_the_part_that_is_cut(rt: HostRuntime) -> Result<(), Fail> {
-    let values = Shape::Cycling(5).values(rt.alloc(), 2049)?;
     for (format, first, second) in [
         (Format::Plain, 8192, 8192),
         (Format::Static, 384, 384),
@@ -69,14 +87,35 @@ fn a_file_that_is_cut_is_refused_for_the_part_that_is_cut(rt: HostRuntime) -> Re
         (Format::ReferenceDynamic, 393, 393),
         (Format::Delta1Runs, 4110, 4120),
     ] {
-        let column = encode_list(rt.alloc(), values.as_slice(), format)?;
-        let bytes = column.encoded();
-        let borders = Borders {
-            first: 16 + first,
-            second: 16 + first + second,
-        };
-        assert_eq!(rt; bytes.len(), borders.second + 8, "{format:?}");
-        expect_faults(&rt, rt.alloc(), bytes, borders, format)?;
+        expect_cut(&rt, rt.alloc(), format, first, second)?;
+    }
+    Ok(())
+}
+
+// The file with a byte behind it.
+fn expect_byte_more(rt: &impl Abort, alloc: Global, encoded: &[u8], byte: u8) -> Result<(), Fail> {
+    let mut bytes = Vec::from_slice(alloc, encoded)?;
+    bytes.push(byte)?;
+    let fault = fault_of(alloc, bytes.as_slice())?;
+    assert_eq!(rt;
+        fault,
+        Some(ColumnError::BadTail),
+        "{byte} behind {} bytes",
+        encoded.len()
+    );
+    Ok(())
+}
+
+fn expect_bytes_more(
+    rt: &impl Abort,
+    alloc: Global,
+    count: u16,
+    format: Format,
+) -> Result<(), Fail> {
+    let values = Shape::Cycling(5).values(alloc, count)?;
+    let column = encode_list(alloc, values.as_slice(), format)?;
+    for byte in [0, 1, 0xff] {
+        expect_byte_more(rt, alloc, column.encoded(), byte)?;
     }
     Ok(())
 }
@@ -84,16 +123,8 @@ fn a_file_that_is_cut_is_refused_for_the_part_that_is_cut(rt: HostRuntime) -> Re
 #[test]
 fn a_file_with_a_byte_more_is_refused_for_its_tail(rt: HostRuntime) -> Result<(), Fail> {
     for count in [0, 1, 1024, 2049u16] {
-        let values = Shape::Cycling(5).values(rt.alloc(), count)?;
         for format in FORMATS {
-            let column = encode_list(rt.alloc(), values.as_slice(), format)?;
-            for byte in [0, 1, 0xff] {
-                let mut bytes = Vec::from_slice(rt.alloc(), column.encoded())?;
-                bytes.push(byte)?;
-                let fault = fault_of(rt.alloc(), bytes.as_slice())?;
-                let expected = Some(ColumnError::BadTail);
-                assert_eq!(rt; fault, expected, "{count} values and {byte} in {format:?}");
-            }
+            expect_bytes_more(&rt, rt.alloc(), count, format)?;
         }
     }
     Ok(())

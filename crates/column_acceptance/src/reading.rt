@@ -1,18 +1,25 @@
 //! Files that are read back.
 
+ghost use Rattle.std.specs.Prelude.{◌≤◌, length};
+ghost use Rattle.definitions.specs.Columns.{max_rows};
+
 use crate::files::{FORMATS, fault_of, file_of, head, packed, read};
 use crate::generic::blocks_of;
 use crate::shapes::Shape;
+use block_core::Format;
 use column_core::{Column, Cursor, encode_list};
+use column_file::ColumnError;
+use std::alloc::{AllocError, Global};
 use std::process::Abort;
 use std::test::Fail;
 
 // Two columns have the same head, the same file, the same spellings of blocks and the same values after the last whole block.
 fn expect_same(rt: &impl Abort, found: &Column, column: &Column) {
     let format = column.format();
-    assert_eq!(rt; found.format(), format);
-    assert_eq!(rt; found.count(), column.count(), "{format:?}");
-    assert_eq!(rt; found.static_width(), column.static_width(), "{format:?}");
+    assert_eq!(rt;
+        (found.format(), found.count(), found.static_width()),
+        (format, column.count(), column.static_width())
+    );
     assert_eq!(rt; found.encoded(), column.encoded(), "{format:?}");
     for block in 0..column.count() / 1024 {
         assert_eq!(rt;
@@ -41,6 +48,24 @@ fn expect_tail(rt: &impl Abort, column: &Column, values: &[u64]) {
     }
 }
 
+// The file of these values is a column of the same bytes, blocks and values.
+fn expect_read_back(
+    rt: &impl Abort,
+    alloc: Global,
+    values: &[u64],
+    format: Format,
+) -> Result<(), ColumnError>
+    requires few { length values.now ≤ max_rows }
+{
+    let column = encode_list(alloc, values, format)?;
+    let found = read(alloc, column.encoded())?;
+    expect_same(rt, &found, &column);
+    expect_tail(rt, &found, values);
+    let blocks = blocks_of(alloc, &mut Cursor::<8>::new(&found))?;
+    assert_eq!(rt; blocks.as_slice(), values, "{format:?}");
+    Ok(())
+}
+
 #[test]
 fn every_file_is_accepted_and_gives_its_column_back(rt: HostRuntime) -> Result<(), Fail> {
     for shape in [
@@ -51,16 +76,7 @@ fn every_file_is_accepted_and_gives_its_column_back(rt: HostRuntime) -> Result<(
         for count in [0, 1, 1023, 1024, 1025, 2049u16] {
             let values = shape.values(rt.alloc(), count)?;
             for format in FORMATS {
-                let column = encode_list(rt.alloc(), values.as_slice(), format)?;
-                let found = read(rt.alloc(), column.encoded())?;
-                expect_same(&rt, &found, &column);
-                expect_tail(&rt, &found, values.as_slice());
-                let blocks = blocks_of(rt.alloc(), &mut Cursor::<8>::new(&found))?;
-                assert_eq!(rt;
-                    blocks.as_slice(),
-                    values.as_slice(),
-                    "{shape:?} in {format:?}"
-                );
+                expect_read_back(&rt, rt.alloc(), values.as_slice(), format)?;
             }
         }
     }
@@ -68,20 +84,24 @@ fn every_file_is_accepted_and_gives_its_column_back(rt: HostRuntime) -> Result<(
 }
 
 // The spellings of the blocks, with the head before them and the tail's words behind them, are the file.
+fn expect_parts(rt: &impl Abort, alloc: Global, format: Format) -> Result<(), AllocError> {
+    let values = Shape::Cycling(5).values(alloc, 2049)?;
+    let column = encode_list(alloc, values.as_slice(), format)?;
+    let bytes = file_of(
+        alloc,
+        head(format.tag(), column.static_width(), 2049),
+        column.block_bytes(0),
+        column.block_bytes(1),
+        b"\x03\0\0\0\0\0\0\0",
+    )?;
+    assert_eq!(rt; bytes.as_slice(), column.encoded(), "{format:?}");
+    Ok(())
+}
+
 #[test]
 fn the_blocks_of_a_file_stand_between_its_head_and_its_tail(rt: HostRuntime) -> Result<(), Fail> {
-    let values = Shape::Cycling(5).values(rt.alloc(), 2049)?;
     for format in FORMATS {
-        let column = encode_list(rt.alloc(), values.as_slice(), format)?;
-        assert_eq!(rt; column.count(), 2049, "{format:?}");
-        let bytes = file_of(
-            rt.alloc(),
-            head(format.tag(), column.static_width(), 2049),
-            column.block_bytes(0),
-            column.block_bytes(1),
-            b"\x03\0\0\0\0\0\0\0",
-        )?;
-        assert_eq!(rt; bytes.as_slice(), column.encoded(), "{format:?}");
+        expect_parts(&rt, rt.alloc(), format)?;
     }
     Ok(())
 }

@@ -3,7 +3,7 @@
 use crate::files::{FORMATS, head, read};
 use crate::generic::{blocks_of, looked_up, picked};
 use crate::shapes::Shape;
-use block_core::{Block, BlockSource, Format, Steps};
+use block_core::{Block, BlockSource, Format, PlaceSource, Steps};
 use column_core::{Column, Cursor, Gather, encode_list};
 use std::alloc::{AllocError, Global};
 use std::process::Abort;
@@ -110,29 +110,52 @@ fn the_blocks_of_every_format_are_one_list_at_every_lane_width(
     Ok(())
 }
 
+// Blocks in no order are those of the 2,050 values.
+fn expect_any_order(rt: &impl Abort, alloc: Global, column: &Column, values: &[u64]) {
+    let mut cursor = Cursor::<8>::new(column);
+    let mut steps = Steps::start(alloc);
+    let mut block = Block::new();
+    for (number, start, end) in [
+        (2, 2048, 2050),
+        (1, 1024, 2048),
+        (0, 0, 1024),
+        (2, 2048, 2050),
+    ] {
+        assert!(rt; number * 1024 < cursor.count(), "block {number}");
+        cursor.block(number, &mut block, &mut steps);
+        assert_eq!(rt;
+            Some(block.as_slice()),
+            values.get(start..end),
+            "block {number}"
+        );
+    }
+}
+
 #[test]
 fn blocks_are_read_in_any_order(rt: HostRuntime) -> Result<(), Fail> {
     let values = Shape::Scattered { mask: 0xffff }.values(rt.alloc(), 2050)?;
     for format in FORMATS {
         let column = encode_list(rt.alloc(), values.as_slice(), format)?;
-        let mut cursor = Cursor::<8>::new(&column);
-        let mut steps = Steps::start(rt.alloc());
-        let mut block = Block::new();
-        for (number, start, end) in [
-            (2, 2048, 2050),
-            (1, 1024, 2048),
-            (0, 0, 1024),
-            (2, 2048, 2050),
-        ] {
-            assert!(rt; number * 1024 < cursor.count(), "block {number}");
-            cursor.block(number, &mut block, &mut steps);
-            assert_eq!(rt;
-                Some(block.as_slice()),
-                values.as_slice().get(start..end),
-                "block {number} in {format:?}"
-            );
-        }
+        expect_any_order(&rt, rt.alloc(), &column, values.as_slice());
     }
+    Ok(())
+}
+
+// The values at the places, of which some may be behind the last value, are those of the list.
+fn expect_look_up<P: PlaceSource>(
+    rt: &impl Abort,
+    alloc: Global,
+    source: &mut P,
+    values: &[u64],
+    places: &[u64],
+) -> Result<(), AllocError> {
+    let found = looked_up(alloc, source, places)?;
+    let expected = picked(alloc, values, places)?;
+    assert_eq!(rt;
+        found.as_slice(),
+        expected.as_slice(),
+        "the places {places:?}"
+    );
     Ok(())
 }
 
@@ -145,7 +168,6 @@ fn expect_places<const L: usize>(
     count: u16,
 ) -> Result<(), Fail> {
     let mut gather = Gather::<L>::new(column);
-    let format = column.format();
     for (order, steps) in [
         (Order::Ends, 12),
         (Order::Repeated(0), 70),
@@ -160,13 +182,7 @@ fn expect_places<const L: usize>(
         (Order::Repeated(2048), 3),
     ] {
         let places = order.places(alloc, steps, count)?;
-        let expected = picked(alloc, values, places.as_slice())?;
-        let found = looked_up(alloc, &mut gather, places.as_slice())?;
-        assert_eq!(rt;
-            found.as_slice(),
-            expected.as_slice(),
-            "{count} values in {format:?} at {L} lanes, {order:?}"
-        );
+        expect_look_up(rt, alloc, &mut gather, values, places.as_slice())?;
     }
     Ok(())
 }
@@ -211,14 +227,7 @@ fn values_stay_the_same_when_their_block_is_opened(rt: HostRuntime) -> Result<()
         ] {
             let places = order.places(rt.alloc(), steps, 2050)?;
             let mut gather = Gather::<8>::new(&column);
-            let found = looked_up(rt.alloc(), &mut gather, places.as_slice())?;
-            let expected = picked(rt.alloc(), values.as_slice(), places.as_slice())?;
-            assert_eq!(rt; found.len(), steps as usize, "{order:?} in {format:?}");
-            assert_eq!(rt;
-                found.as_slice(),
-                expected.as_slice(),
-                "{order:?} in {format:?}"
-            );
+            expect_look_up(&rt, rt.alloc(), &mut gather, values.as_slice(), &places)?;
         }
     }
     Ok(())

@@ -1,16 +1,12 @@
 -- What a block's spelling begins with, and how long it is.
-use Rattle.std.proofs.Common.{◌≡◌, ℕ, ◌+◌, ◌-◌, ◌*◌, ◌^◌, ◌<◌, ◌≤◌, List, [], ◌∷◌, ◌++◌, length, take, drop, get_or, refl, sym, ap, ◌∙◌, arith, length-append}
-use Rattle.std.specs.Prelude.{slice_index}
-use Rattle.std.specs.Int.{from_le_bytes, w16, w64}
-use Rattle.std.proofs.lemmas.List.{take_at, drop_at, get_or-append_right}
+use Rattle.std.proofs.Common.{◌≡◌, ℕ, ◌+◌, ◌-◌, ◌^◌, ◌<◌, List, length, take, drop, get_or, ap, ◌∙◌, arith, length-append}
+use Rattle.std.specs.Int.{from_le_bytes, w64}
+use Rattle.std.proofs.lemmas.List.{drop_at, get_or-append_right}
 use Rattle.definitions.specs.Columns.{word_bytes}
-use Rattle.definitions.specs.Spellings.{width_of, IsDynamicBlock, IsCascade}
-use Rattle.definitions.specs.Runs.{run_count, IsRunsBlock}
+use Rattle.definitions.specs.Spellings.{IsCascade}
 use Rattle.definitions.specs.ColumnFiles.{Format, BlockOf}
 use Rattle.definitions.proofs.WordLaws.{length-word_bytes}
-use Rattle.definitions.proofs.SpellingLaws.{IsDynamicBlock-size}
-use Rattle.definitions.proofs.RunLaws.{IsRunsBlock-length}
-use Rattle.definitions.proofs.BlockLaws.{BlockOf-short, IsDynamicBlock-head, IsRunsBlock-head, IsCascade-base}
+use Rattle.definitions.proofs.BlockLaws.{BlockOf-short, IsCascade-base}
 
 -- a spelling is short
 pub sized : (format : Format) (width : ℕ) (values : List ℕ) → (bytes : List ℕ) × BlockOf format width values bytes → (bytes : List ℕ) × (length bytes < 2 ^ 32) × BlockOf format width values bytes

@@ -1,13 +1,12 @@
 -- The blocks of a list, as they are encoded one after the other.
-use Rattle.std.proofs.Common.{◌≡◌, ℕ, zero, suc, ◌+◌, ◌-◌, ◌*◌, ◌/◌, ◌%◌, ◌^◌, ◌<◌, ◌≤◌, List, [], ◌++◌, length, take, drop, get_or, refl, sym, ap, ap₂, ◌∙◌, subst, arith, length-append}
-use Rattle.std.proofs.lemmas.List.{take-take, take_all, drop-take, take-append-drop, length-take, length-drop, get_or-take, get_or-drop}
+use Rattle.std.proofs.Common.{◌≡◌, ℕ, ◌+◌, ◌*◌, ◌/◌, ◌^◌, ◌<◌, ◌≤◌, List, length, take, drop, get_or, refl, sym, ap, ◌∙◌, subst, arith}
+use Rattle.std.proofs.lemmas.List.{take-take, length-take, get_or-take, get_or-drop}
 use Rattle.definitions.specs.Blocks.{block_len}
 use Rattle.definitions.specs.Packed.{AreBelow, IsWidth}
 use Rattle.definitions.specs.Spellings.{width_of}
 use Rattle.definitions.specs.ColumnFiles as columns
 use Rattle.definitions.specs.ColumnFiles.{FitsFormat, whole_blocks, static_width_of}
-use Rattle.definitions.proofs.SpellingLaws.{AreBelow-words, IsWidth-width_of}
-use Rattle.definitions.proofs.DifferenceLaws.{words_from}
+use Rattle.definitions.proofs.SpellingLaws.{IsWidth-width_of}
 
 -- how many values the whole blocks have
 abbrev pub whole_count : List ℕ → ℕ

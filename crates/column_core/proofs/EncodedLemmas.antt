@@ -9,7 +9,7 @@ use Rattle.definitions.specs.Blocks.{block_len, block_at}
 use Rattle.definitions.specs.Columns.{max_rows, column_head, word_bytes, words_of}
 use Rattle.definitions.specs.ColumnFiles as columns
 use Rattle.definitions.specs.ColumnFiles.{BlockOf, piece_bytes, IsEncoded, IsIndexed}
-use Rattle.definitions.proofs.PieceLaws.{with_count, encoded_size, IsIndexed-empty, IsIndexed-push, IsIndexed-tail, BlockPlace, block_place, TailPlace, tail_place, Counts, counts}
+use Rattle.definitions.proofs.PieceLaws.{with_count, encoded_size, IsIndexed-empty, IsIndexed-push, IsIndexed-tail, BlockPlace, block_place, counts}
 use Rattle.definitions.proofs.BlockLaws.{BlockOf-full}
 use Rattle.definitions.proofs.DifferenceLaws.{words_from}
 use Rattle.block_core.specs.declared.formats.Format.{Format}

@@ -1,7 +1,7 @@
 -- What bytes that begin with a head show.
-use Rattle.std.proofs.Common.{◌≡◌, ℕ, ◌+◌, ◌<◌, ◌≤◌, List, [], ◌∷◌, ◌++◌, length, take, drop, get_or, refl, sym, ap, ap₂, ◌∙◌, subst, arith, length-append}
+use Rattle.std.proofs.Common.{◌≡◌, ℕ, ◌≤◌, List, [], ◌++◌, length, take, drop, get_or, refl, sym, ap, ◌∙◌, arith, length-append}
 use Rattle.std.specs.Int.{from_le_bytes, w64}
-use Rattle.std.proofs.lemmas.List.{take_at, append_assoc, append-nil}
+use Rattle.std.proofs.lemmas.List.{take_at, append-nil}
 use Rattle.definitions.specs.Columns.{column_head, word_bytes}
 use Rattle.definitions.specs.ColumnFiles as columns
 use Rattle.definitions.specs.ColumnFiles.{IsHead}

@@ -1,11 +1,11 @@
 -- How a reader goes on by a block.
-use Rattle.std.proofs.Common.{◌≡◌, ℕ, zero, suc, ◌+◌, ◌-◌, ◌*◌, ◌/◌, ◌%◌, ◌^◌, ◌<◌, ◌≤◌, max, List, [], ◌∷◌, ◌++◌, length, take, drop, get_or, IfSome, refl, sym, ap, ap₂, ◌∙◌, subst, arith, length-append, append_assoc}
-use Rattle.std.proofs.lemmas.List.{take-append-drop, drop-drop, length-take, length-drop, append-nil}
+use Rattle.std.proofs.Common.{◌≡◌, ℕ, zero, suc, ◌+◌, ◌-◌, ◌*◌, ◌/◌, ◌%◌, ◌<◌, ◌≤◌, List, [], ◌∷◌, ◌++◌, length, take, drop, get_or, IfSome, refl, sym, ap, ap₂, ◌∙◌, arith, length-append, append_assoc}
+use Rattle.std.proofs.lemmas.List.{take-append-drop, drop-drop, length-take, length-drop}
 use Rattle.definitions.specs.Blocks.{block_len}
 use Rattle.definitions.specs.Columns.{column_head}
 use Rattle.definitions.specs.Packed.{IsPacked, IsWidth}
 use Rattle.definitions.specs.Spellings.{width_of}
-use Rattle.definitions.specs.ColumnFiles.{Format, plain, static, dynamic, runs, delta1_dynamic, delta16_dynamic, reference_dynamic, delta1_runs, whole_blocks, tag_of, BlockOf, BeginsWith, BeginsWithBlock, LacksBlock, Piece, ArePieces, piece_values, piece_bytes, starts_from, head_len, static_width_of, IsHead, Opening, StopsAt, HasBlocks, FileFault, bad_header, bad_block, bad_width, bad_tail, HasFileFault, IsColumnFile, IsIndexed}
+use Rattle.definitions.specs.ColumnFiles.{Format, plain, static, dynamic, runs, delta1_dynamic, delta16_dynamic, reference_dynamic, delta1_runs, whole_blocks, tag_of, BlockOf, LacksBlock, Piece, piece_values, piece_bytes, head_len, static_width_of, IsHead, StopsAt, HasBlocks, FileFault, bad_header, bad_block, bad_width, bad_tail, HasFileFault, IsColumnFile, IsIndexed}
 use Rattle.definitions.proofs.SpellingLaws.{width_of-is, drop-octet}
 use Rattle.definitions.proofs.BlockLaws.{BlockOf-full}
 use Rattle.definitions.proofs.ColumnFileLaws.{length-piece_values}

@@ -7,12 +7,12 @@ use Rattle.definitions.specs.Blocks.{block_len}
 use Rattle.definitions.specs.Columns.{column_head, word_bytes, words_of}
 use Rattle.definitions.specs.Packed.{AreBelow}
 use Rattle.definitions.specs.Spellings.{width_of}
-use Rattle.definitions.specs.ColumnFiles.{Format, plain, static, dynamic, runs, delta1_dynamic, delta16_dynamic, reference_dynamic, delta1_runs, tag_of, IsColumnWidth, whole_blocks, static_width_of, Piece, ArePieces, piece_values, piece_bytes, starts_from, head_len, IsIndexed, IsColumnFile, LacksBlock, Opening, FileFault, bad_header, bad_block, bad_width, bad_tail, StopsAt, HasBlocks, asked_width, HasFileFault}
+use Rattle.definitions.specs.ColumnFiles.{Format, plain, static, dynamic, runs, delta1_dynamic, delta16_dynamic, reference_dynamic, delta1_runs, tag_of, whole_blocks, static_width_of, Piece, ArePieces, piece_values, piece_bytes, starts_from, head_len, IsIndexed, IsColumnFile, LacksBlock, Opening, FileFault, bad_header, bad_block, bad_width, bad_tail, StopsAt, HasBlocks, asked_width, HasFileFault}
 use Rattle.definitions.proofs.BlockLaws.{BlockOf-full, BlockOf-front}
 use Rattle.std.specs.Int.{from_le_bytes, w64}
 use Rattle.definitions.specs.Columns.{IsWord}
 use Rattle.definitions.proofs.WordLaws.{word_bytes-from_le_bytes}
-use Rattle.definitions.proofs.PackedLaws.{AreBelow-front, IsWidth-append}
+use Rattle.definitions.proofs.PackedLaws.{IsWidth-append}
 use Rattle.definitions.proofs.SpellingLaws.{AreBelow-words, width_of-is, IsWidth-width_of, width_of-narrow, length-words_of, take-octet, drop-octet}
 use Rattle.definitions.proofs.ColumnFileLaws.{tag_of-one, SameHead, column_head-one, length-piece_values, SamePieces, pieces_front, encoded_length, whole_blocks-pieces}
 use Rattle.definitions.proofs.PieceLaws.{AreWords-append}

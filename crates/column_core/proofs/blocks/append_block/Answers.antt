@@ -1,4 +1,3 @@
-use Rattle.std.proofs.Common.{refl}
 use Rattle.definitions.specs.ColumnFiles as columns
 use Rattle.column_core.proofs.BlockLemmas.{sized}
 use Rattle.column_core.proofs.blocks.append_block.Goals as goal

@@ -1,11 +1,11 @@
-use Rattle.std.proofs.Common.{◌≡◌, ◌+◌, ◌-◌, ◌*◌, ◌/◌, ◌++◌, ℕ, List, length, take, drop, refl, sym, ap, ap₂, ◌∙◌, subst, arith}
+use Rattle.std.proofs.Common.{◌≡◌, ◌+◌, ◌-◌, ◌*◌, ◌/◌, ◌++◌, ℕ, List, length, take, drop, sym, ap, ap₂, ◌∙◌, subst, arith}
 use Rattle.std.proofs.lemmas.List.{take-append-drop, take_all, length-drop}
 use Rattle.definitions.specs.Blocks.{block_len}
 use Rattle.definitions.specs.ColumnFiles.{FitsFormat, static_width_of}
 use Rattle.block_core.specs.declared.formats.Format.{Format}
 use Rattle.block_core.specs.Formats.{format_of}
 use Rattle.column_core.specs.Columns.{Encoding, encoding, shape}
-use Rattle.column_core.proofs.BuilderLemmas.{whole_count, static_width_of-whole, block_fits}
+use Rattle.column_core.proofs.BuilderLemmas.{static_width_of-whole, block_fits}
 use Rattle.definitions.proofs.PieceLaws.{take_blocks}
 use Rattle.column_core.proofs.builders.encode_list.Goals as goal
 

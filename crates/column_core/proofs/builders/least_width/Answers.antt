@@ -1,10 +1,9 @@
-use Rattle.std.proofs.Common.{◌≡◌, ◌*◌, ◌/◌, length, take, sym, ap, ◌∙◌, arith}
+use Rattle.std.proofs.Common.{◌≡◌, ◌*◌, ◌/◌, length, sym, ap, ◌∙◌, arith}
 use Rattle.std.proofs.lemmas.List.{take_all}
 use Rattle.definitions.specs.Blocks.{block_len}
 use Rattle.definitions.specs.Spellings.{width_of}
-use Rattle.definitions.specs.ColumnFiles.{whole_blocks, static_width_of}
+use Rattle.definitions.specs.ColumnFiles.{whole_blocks}
 use Rattle.definitions.proofs.SpellingLaws.{width_of-is}
-use Rattle.block_core.specs.Formats.{format_of}
 use Rattle.column_core.proofs.builders.least_width.Goals as goal
 
 pub returns-in-Static-clause-width : goal.returns-in-Static-clause-width

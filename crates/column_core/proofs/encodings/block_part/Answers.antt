@@ -1,7 +1,7 @@
-use Rattle.std.proofs.Common.{◌≡◌, ◌+◌, ◌-◌, ◌≤◌, ◌<◌, List, ℕ, length, get_or, refl, sym, arith, subst, ◌∙◌}
-use Rattle.definitions.specs.ColumnFiles.{Format, BlockOf, IsIndexed}
-use Rattle.definitions.specs.Blocks.{block_len, block_at}
-use Rattle.definitions.proofs.PieceLaws.{Counts, counts}
+use Rattle.std.proofs.Common.{get_or, refl, sym, arith, subst}
+use Rattle.definitions.specs.ColumnFiles.{BlockOf}
+use Rattle.definitions.specs.Blocks.{block_at}
+use Rattle.definitions.proofs.PieceLaws.{counts}
 use Rattle.definitions.proofs.ColumnFileLaws.{SameColumn, IsEncoded-one}
 use Rattle.column_core.proofs.EncodedLemmas.{BlockSpan, block_span}
 use Rattle.column_core.proofs.encodings.block_part.Goals as goal

@@ -1,5 +1,5 @@
-use Rattle.std.proofs.Common.{◌≡◌, arith, sym, ap₂, ◌∙◌}
-use Rattle.definitions.specs.Spellings.{width_of, IsDynamicBlock}
+use Rattle.std.proofs.Common.{arith, ap₂, ◌∙◌}
+use Rattle.definitions.specs.Spellings.{IsDynamicBlock}
 use Rattle.definitions.proofs.SpellingLaws.{IsDynamicBlock-size}
 use Rattle.definitions.proofs.BlockLaws.{IsDynamicBlock-head}
 use Rattle.column_core.proofs.BlockLemmas.{inside}

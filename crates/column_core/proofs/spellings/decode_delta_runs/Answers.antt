@@ -1,4 +1,4 @@
-use Rattle.std.proofs.Common.{◌≡◌, take, ap, ap₂, arith, ◌∙◌}
+use Rattle.std.proofs.Common.{take, ap, ap₂, arith, ◌∙◌}
 use Rattle.std.specs.Int.{from_le_bytes, w16}
 use Rattle.definitions.specs.Runs.{IsRunsBlock}
 use Rattle.definitions.proofs.RunLaws.{IsRunsBlock-length}

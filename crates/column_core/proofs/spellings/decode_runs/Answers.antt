@@ -1,4 +1,4 @@
-use Rattle.std.proofs.Common.{arith, sym, ◌∙◌}
+use Rattle.std.proofs.Common.{arith, ◌∙◌}
 use Rattle.definitions.proofs.RunLaws.{IsRunsBlock-length}
 use Rattle.definitions.proofs.BlockLaws.{IsRunsBlock-head}
 use Rattle.column_core.proofs.spellings.decode_runs.Goals as goal

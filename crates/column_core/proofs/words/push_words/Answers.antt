@@ -1,4 +1,4 @@
-use Rattle.std.proofs.Common.{◌≡◌, ◌+◌, ◌*◌, ◌/◌, ◌<◌, ◌≤◌, ◌∷◌, ◌++◌, [], length, take, get_or, ap, ap₂, sym, arith, ◌∙◌}
+use Rattle.std.proofs.Common.{◌<◌, ◌∷◌, ◌++◌, [], length, ap, ap₂, sym, arith, ◌∙◌}
 use Rattle.std.proofs.lemmas.List.{length-take, take_more, take_all}
 use Rattle.definitions.proofs.SpellingLaws.{length-words_of}
 use Rattle.column_core.proofs.words.push_words.Goals as goal

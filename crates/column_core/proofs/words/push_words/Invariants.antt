@@ -1,5 +1,5 @@
 -- what was pushed are the first numbers
-use Rattle.std.proofs.Common.{◌≡◌, ◌<◌, ℕ, List, length, take}
+use Rattle.std.proofs.Common.{◌≡◌, ℕ, List, take}
 use Rattle.std.specs.List.{AllByRecursion}
 use Rattle.definitions.specs.Columns.{IsWord, words_of}
 use Rattle.column_core.proofs.words.push_words.Given as goal

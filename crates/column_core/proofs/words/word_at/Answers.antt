@@ -1,11 +1,11 @@
-use Rattle.std.proofs.Common.{◌≡◌, ◌*◌, ◌/◌, ◌+◌, ◌<◌, [], length, get_or, ap, ap₂, sym, arith, ◌∙◌}
+use Rattle.std.proofs.Common.{◌≡◌, ◌/◌, ◌<◌, [], length, get_or, ap, ap₂, arith, ◌∙◌}
 use Rattle.std.specs.Int.{from_le_bytes, w64}
 use Rattle.std.specs.Simd.{first_chunks}
 use Rattle.definitions.specs.Columns.{word_bytes}
 use Rattle.definitions.proofs.WordLaws.{from_le_bytes-word_bytes}
 use Rattle.definitions.proofs.SpellingLaws.{length-words_of}
 use Rattle.definitions.proofs.DifferenceLaws.{words_at}
-use Rattle.column_core.proofs.EncodedLemmas.{chunks_of_words, length-first_chunks}
+use Rattle.column_core.proofs.EncodedLemmas.{chunks_of_words}
 use Rattle.column_core.proofs.words.word_at.Goals as goal
 
 pub offset_bounds-words-place : goal.offset_bounds-words-place

@@ -3,7 +3,7 @@ use Rattle.definitions.specs.Columns.{column_head}
 use Rattle.definitions.specs.ColumnFiles as columns
 use Rattle.definitions.specs.ColumnFiles.{IsColumnWidth}
 use Rattle.block_core.specs.Formats.{format_of, tag_of}
-use Rattle.column_file.proofs.HeadLemmas.{Shows, shows, same_format, no_format}
+use Rattle.column_file.proofs.HeadLemmas.{shows, same_format, no_format}
 use Rattle.column_file.proofs.heads.read_head.Goals as goal
 
 pub returns-then-bytes-lt-HEAD_LEN : goal.returns-then-bytes-lt-HEAD_LEN

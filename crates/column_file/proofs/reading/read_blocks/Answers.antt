@@ -1,4 +1,4 @@
-use Rattle.std.proofs.Common.{◌≡◌, ◌++◌, ◌∷◌, [], ℕ, ◌≤◌, List, length, take, drop, sym, ap, subst, arith, ◌∙◌}
+use Rattle.std.proofs.Common.{◌≡◌, ◌≤◌, length, take, drop, sym, ap, subst, ◌∙◌}
 use Rattle.definitions.specs.ColumnFiles.{LacksBlock, BlockOf}
 use Rattle.block_core.specs.Formats.{format_of}
 use Rattle.column_file.proofs.ReadLemmas.{read_none, stops_here, read_more}

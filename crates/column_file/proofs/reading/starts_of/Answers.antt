@@ -1,4 +1,3 @@
-use Rattle.std.proofs.Common.{◌≡◌, sym, ap, subst, arith, ◌∙◌}
 use Rattle.block_core.specs.Formats.{format_of}
 use Rattle.column_file.proofs.ReadLemmas.{wrong_width, wrong_tail, whole_file}
 use Rattle.column_file.proofs.reading.starts_of.Goals as goal

@@ -1,4 +1,4 @@
-use Rattle.std.proofs.Common.{◌≡◌, ℕ, ◌≤◌, List, max, sym, ap, subst, arith, ◌∙◌}
+use Rattle.std.proofs.Common.{◌≡◌, ℕ, ◌≤◌, List, subst, arith}
 use Rattle.definitions.specs.Packed.{IsPacked, IsWidth}
 use Rattle.definitions.specs.Spellings.{width_of}
 use Rattle.definitions.proofs.SpellingLaws.{width_of-is, IsWidth-width_of, AreBelow-words, IsPacked-full}

@@ -1,11 +1,11 @@
 use Rattle.std.proofs.Common.{◌≡◌, ℕ, List, length, get_or, take, drop, sym, ap, subst, ◌∙◌, arith}
 use Rattle.std.specs.Int.{from_le_bytes, w64}
-use Rattle.definitions.specs.ColumnFiles.{IsEncoded, IsIndexed, static_width_of}
+use Rattle.definitions.specs.ColumnFiles.{static_width_of}
 use Rattle.definitions.proofs.ColumnFileLaws.{SameColumn, IsEncoded-one}
 use Rattle.block_core.specs.declared.formats.Format.{Format}
 use Rattle.block_core.specs.Formats.{format_of}
 use Rattle.column_core.specs.Columns.{Encoding, encoding, shape}
-use Rattle.column_core.proofs.EncodedLemmas.{HeadCells, head_cells, as_read}
+use Rattle.column_core.proofs.EncodedLemmas.{head_cells, as_read}
 use Rattle.column_core.proofs.columns.Column.adopt.Goals as goal
 
 pub count_in-count-requires : goal.count_in-count-requires

@@ -1,4 +1,3 @@
-use Rattle.std.proofs.Common.{sym}
 use Rattle.definitions.specs.Blocks.{block_at}
 use Rattle.definitions.specs.ColumnFiles.{static_width_of}
 use Rattle.definitions.proofs.BlockLaws.{BlockOf-values}

@@ -1,4 +1,4 @@
-use Rattle.std.proofs.Common.{◌≡◌, List, ℕ, ap}
+use Rattle.std.proofs.Common.{ap}
 use Rattle.column_core.specs.Columns.{encoding}
 use Rattle.column_core.proofs.EncodedLemmas.{stored_is, indexed_as}
 use Rattle.column_core.proofs.encodings.Encoded.adopt.Goals as goal

@@ -1,5 +1,3 @@
-use Rattle.std.proofs.Common.{rules}
-use Rattle.definitions.specs.ColumnFiles.{BlockOf}
 use Rattle.block_core.specs.Formats.{format_of}
 use Rattle.column_core.proofs.encodings.Encoded.block_bytes.Goals as goal
 

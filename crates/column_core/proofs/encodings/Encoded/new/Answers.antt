@@ -1,8 +1,6 @@
-use Rattle.std.proofs.Common.{◌≡◌, ◌++◌, List, [], ℕ, refl, sym, ap, subst, ◌∙◌}
+use Rattle.std.proofs.Common.{◌≡◌, ◌++◌, [], refl, ap, ◌∙◌}
 use Rattle.definitions.specs.Columns.{column_head}
-use Rattle.definitions.specs.ColumnFiles.{IsIndexed}
-use Rattle.definitions.proofs.PieceLaws.{IsIndexed-empty}
-use Rattle.block_core.specs.Formats.{format_of, tag_of}
+use Rattle.block_core.specs.Formats.{tag_of}
 use Rattle.column_core.specs.Columns.{encoding}
 use Rattle.column_core.proofs.EncodedLemmas.{stored_is, indexed_as, empty_file}
 use Rattle.column_core.proofs.encodings.Encoded.new.Goals as goal

@@ -1,8 +1,8 @@
-use Rattle.std.proofs.Common.{◌≡◌, ◌+◌, ◌++◌, List, ℕ, sym, ap, arith, ◌∙◌}
+use Rattle.std.proofs.Common.{◌+◌, ◌++◌, ap}
 use Rattle.definitions.proofs.BlockLaws.{BlockOf-spelling}
 use Rattle.block_core.specs.Formats.{format_of}
-use Rattle.column_core.specs.Columns.{Encoding, encoding}
-use Rattle.column_core.proofs.EncodedLemmas.{IsChange, stored_is, change_is, pushed, unchanged, head_fits, on_err}
+use Rattle.column_core.specs.Columns.{encoding}
+use Rattle.column_core.proofs.EncodedLemmas.{stored_is, change_is, pushed, unchanged, head_fits, on_err}
 use Rattle.column_core.proofs.encodings.Encoded.push_block.Goals as goal
 
 pub grow-requires-clause-head : goal.grow-requires-clause-head

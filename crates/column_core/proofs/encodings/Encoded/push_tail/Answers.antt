@@ -1,6 +1,6 @@
-use Rattle.std.proofs.Common.{◌≡◌, ◌+◌, ◌++◌, List, ℕ, length, refl, sym, ap, arith, ◌∙◌}
-use Rattle.column_core.specs.Columns.{Encoding, encoding}
-use Rattle.column_core.proofs.EncodedLemmas.{IsChange, stored_is, change_is, tailed, unchanged, head_fits, on_err}
+use Rattle.std.proofs.Common.{◌+◌, ◌++◌, length, refl, ap}
+use Rattle.column_core.specs.Columns.{encoding}
+use Rattle.column_core.proofs.EncodedLemmas.{stored_is, change_is, tailed, unchanged, head_fits, on_err}
 use Rattle.column_core.proofs.encodings.Encoded.push_tail.Goals as goal
 
 pub finish-requires : goal.finish-requires
