@@ -5,10 +5,8 @@ ghost use Rattle.definitions.specs.Blocks.{block_len, IsFull};
 ghost use Rattle.definitions.specs.Differences.{first_of};
 ghost use Rattle.definitions.proofs.DifferenceLaws.{gapped, sums_of};
 
+use block_core::BLOCK_LEN;
 use lane_core::Lanes;
-
-/// How many values a block has.
-pub const BLOCK_LEN: usize = 1024;
 
 /// How many strands a packed block has, which is the gap of `Delta16`.
 pub const STRANDS: usize = 16;

@@ -5,8 +5,8 @@ ghost use Rattle.definitions.specs.Blocks.{block_len};
 ghost use Rattle.definitions.specs.Differences.{least_of, reference_of};
 ghost use Rattle.definitions.proofs.DifferenceLaws.{raised, reference_of-full, reference_of-join};
 
-use crate::differences::{BLOCK_LEN, words_fit};
-use block_core::{Block, Transform};
+use crate::differences::words_fit;
+use block_core::{BLOCK_LEN, Block, Transform};
 
 /// Each value's difference to the block's least value, which is the base.
 pub struct Reference<const L: usize>;

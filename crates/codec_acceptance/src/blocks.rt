@@ -1,7 +1,16 @@
 //! The block, the names and tags of the formats, and the step counter.
 
 use block_core::{Block, Format, Steps};
+use std::process::Abort;
 use std::test::Fail;
+
+fn expect_format(rt: &impl Abort, format: Format, tag: u8, name: &str) {
+    assert_eq!(rt; (format.tag(), format.name()), (tag, name));
+    assert_eq!(rt;
+        (Format::from_tag(tag), Format::from_name(name)),
+        (Some(format), Some(format))
+    );
+}
 
 #[test]
 fn the_table_of_formats_is_as_written(rt: HostRuntime) -> Result<(), Fail> {
@@ -15,22 +24,24 @@ fn the_table_of_formats_is_as_written(rt: HostRuntime) -> Result<(), Fail> {
         (Format::ReferenceDynamic, 6, "reference+dynamic"),
         (Format::Delta1Runs, 7, "delta1+runs"),
     ] {
-        assert_eq!(rt; format.tag(), tag, "{name}");
-        assert_eq!(rt; Format::from_tag(tag), Some(format), "{name}");
-        assert_eq!(rt; format.name(), name);
-        assert_eq!(rt; Format::from_name(name), Some(format), "{name}");
+        expect_format(&rt, format, tag, name);
     }
-    assert_eq!(rt; Format::from_tag(8), None);
-    assert_eq!(rt; Format::from_tag(255), None);
-    for name in [
-        "",
-        "Plain",
-        "plain ",
-        "delta1",
-        "delta1+dynamic+runs",
-        "auto",
+    Ok(())
+}
+
+#[test]
+fn other_tags_and_names_are_no_format(rt: HostRuntime) -> Result<(), Fail> {
+    for (tag, name) in [
+        (8, ""),
+        (9, "Plain"),
+        (128, "plain "),
+        (254, "delta1"),
+        (255, "auto"),
     ] {
-        assert_eq!(rt; Format::from_name(name), None, "{name}");
+        assert_eq!(rt;
+            (Format::from_tag(tag), Format::from_name(name)),
+            (None, None)
+        );
     }
     Ok(())
 }

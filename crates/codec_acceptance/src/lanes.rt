@@ -60,7 +60,7 @@ fn expect_lanes<const L: usize>(rt: &impl Abort, lanes: Lanes<L>, expected: &[u6
 {
     let mut written = [77; 17];
     lanes.store(&mut written);
-    assert_eq!(rt; &written[..L], &expected[..L], "{call}");
+    assert!(rt; written[..L] == expected[..L], "{call}");
     assert!(rt; written[L..].iter().all(|word| *word == 77), "after {call}");
 }
 

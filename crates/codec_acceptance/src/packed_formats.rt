@@ -5,6 +5,7 @@ ghost use Rattle.std.specs.Prelude.{◌≡◌, ◌≤◌, length, IfSome};
 use block_core::{Block, Packing};
 use block_formats::{Dynamic, Static, Words};
 use std::alloc::{AllocError, Global};
+use std::process::Abort;
 use std::test::Fail;
 
 /// Reads the block that the bytes begin with, and spells it again: its head and its length, and whether that is the length
@@ -83,70 +84,75 @@ fn words_are_any_bytes_of_the_length(rt: HostRuntime) -> Result<(), Fail> {
     Ok(())
 }
 
+/// At this lane width the bytes begin with a block of so many bytes, each of whose values is this one, or with none.
+fn expect_static<const L: usize>(
+    rt: &impl Abort,
+    alloc: Global,
+    width: u8,
+    bytes: &[u8],
+    value: u64,
+    len: Option<usize>,
+) -> Result<(), Fail> {
+    let found = match found::<Static<L>>(alloc, width, bytes, value)? {
+        Some((_, len, true)) => Some(len),
+        _ => None,
+    };
+    assert_eq!(rt; found, len, "width {width}, {L} lanes");
+    Ok(())
+}
+
 #[test]
 fn static_blocks_have_the_length_of_the_width(rt: HostRuntime) -> Result<(), Fail> {
-    let alloc = rt.alloc();
-    for (width, byte, count, value, answer) in [
-        (0, 0, 0, 0, Some(((), 0, true))),
-        (0, 7, 5, 0, Some(((), 0, true))),
-        (63, 0xff, 8064, u64::MAX / 2, Some(((), 8064, true))),
-        (64, 0xff, 8200, u64::MAX, Some(((), 8192, true))),
+    for (width, byte, count, value, len) in [
+        (0, 0, 0, 0, Some(0)),
+        (0, 7, 5, 0, Some(0)),
+        (63, 0xff, 8064, u64::MAX / 2, Some(8064)),
+        (64, 0xff, 8200, u64::MAX, Some(8192)),
         (1, 0xff, 127, 0, None),
         (64, 0, 8191, 0, None),
         (65, 0, 8320, 0, None),
         (255, 0, 32640, 0, None),
     ] {
-        let bytes = vec![in alloc; byte; count]?;
-        let at = bytes.as_slice();
-        assert_eq!(rt;
-            found::<Static<1>>(alloc, width, at, value)?,
-            answer,
-            "width {width}, one lane"
-        );
-        assert_eq!(rt;
-            found::<Static<8>>(alloc, width, at, value)?,
-            answer,
-            "width {width}, eight lanes"
-        );
-        assert_eq!(rt;
-            found::<Static<3>>(alloc, width, at, value)?,
-            answer,
-            "width {width}, three lanes"
-        );
+        let bytes = bytes_behind(rt.alloc(), &[], byte, count)?;
+        expect_static::<1>(&rt, rt.alloc(), width, bytes.as_slice(), value, len)?;
+        expect_static::<8>(&rt, rt.alloc(), width, bytes.as_slice(), value, len)?;
+        expect_static::<3>(&rt, rt.alloc(), width, bytes.as_slice(), value, len)?;
     }
+    Ok(())
+}
+
+/// At this lane width the bytes begin with a block of this width and so many bytes, or with none.
+fn expect_dynamic<const L: usize>(
+    rt: &impl Abort,
+    alloc: Global,
+    bytes: &[u8],
+    value: u64,
+    answer: Option<(u8, usize)>,
+) -> Result<(), Fail> {
+    let found = match found::<Dynamic<L>>(alloc, (), bytes, value)? {
+        Some((width, len, true)) => Some((width, len)),
+        _ => None,
+    };
+    assert_eq!(rt; found, answer, "{} bytes, {L} lanes", bytes.len());
     Ok(())
 }
 
 #[test]
 fn dynamic_blocks_begin_with_their_width(rt: HostRuntime) -> Result<(), Fail> {
-    let alloc = rt.alloc();
     for (width, byte, count, value, answer) in [
-        (0, 0, 0, 0, Some((0, 1, true))),
-        (0, 7, 5, 0, Some((0, 1, true))),
-        (0x3f, 0xff, 8064, u64::MAX / 2, Some((63, 8065, true))),
-        (64, 0xff, 8200, u64::MAX, Some((64, 8193, true))),
+        (0, 0, 0, 0, Some((0, 1))),
+        (0, 7, 5, 0, Some((0, 1))),
+        (0x3f, 0xff, 8064, u64::MAX / 2, Some((63, 8065))),
+        (64, 0xff, 8200, u64::MAX, Some((64, 8193))),
         (1, 0, 128, 0, None),
         (0x3f, 0xff, 8063, 0, None),
         (65, 0, 8320, 0, None),
         (255, 0, 32640, 0, None),
     ] {
-        let bytes = bytes_behind(alloc, &[width], byte, count)?;
-        let at = bytes.as_slice();
-        assert_eq!(rt;
-            found::<Dynamic<1>>(alloc, (), at, value)?,
-            answer,
-            "width {width}, one lane"
-        );
-        assert_eq!(rt;
-            found::<Dynamic<8>>(alloc, (), at, value)?,
-            answer,
-            "width {width}, eight lanes"
-        );
-        assert_eq!(rt;
-            found::<Dynamic<3>>(alloc, (), at, value)?,
-            answer,
-            "width {width}, three lanes"
-        );
+        let bytes = bytes_behind(rt.alloc(), &[width], byte, count)?;
+        expect_dynamic::<1>(&rt, rt.alloc(), bytes.as_slice(), value, answer)?;
+        expect_dynamic::<8>(&rt, rt.alloc(), bytes.as_slice(), value, answer)?;
+        expect_dynamic::<3>(&rt, rt.alloc(), bytes.as_slice(), value, answer)?;
     }
     Ok(())
 }
@@ -157,33 +163,24 @@ fn no_bytes_are_no_dynamic_block(rt: HostRuntime) -> Result<(), Fail> {
     Ok(())
 }
 
+/// A check at this lane width finds a block of this width and length, or none.
+fn expect_width<const L: usize>(rt: &impl Abort, bytes: &[u8], answer: Option<(u8, usize)>) {
+    assert_eq!(rt; Dynamic::<L>::check((), bytes), answer, "{L} lanes");
+}
+
 /// Value 0 alone is not 0, and its highest bit is bit 10 or 11 of the first word.
 #[test]
 fn a_width_above_the_least_is_refused(rt: HostRuntime) -> Result<(), Fail> {
-    let alloc = rt.alloc();
     for (width, high, count, answer) in [
         (11, 4, 1406, Some((11, 1409))),
         (12, 4, 1534, None),
         (12, 8, 1534, Some((12, 1537))),
         (12, 8, 1533, None),
     ] {
-        let bytes = bytes_behind(alloc, &[width, 0, high], 0, count)?;
-        let at = bytes.as_slice();
-        assert_eq!(rt;
-            Dynamic::<1>::check((), at),
-            answer,
-            "width {width}, one lane"
-        );
-        assert_eq!(rt;
-            Dynamic::<8>::check((), at),
-            answer,
-            "width {width}, eight lanes"
-        );
-        assert_eq!(rt;
-            Dynamic::<3>::check((), at),
-            answer,
-            "width {width}, three lanes"
-        );
+        let bytes = bytes_behind(rt.alloc(), &[width, 0, high], 0, count)?;
+        expect_width::<1>(&rt, bytes.as_slice(), answer);
+        expect_width::<8>(&rt, bytes.as_slice(), answer);
+        expect_width::<3>(&rt, bytes.as_slice(), answer);
     }
     Ok(())
 }
@@ -206,6 +203,6 @@ fn the_little_end_of_a_word_comes_first(rt: HostRuntime) -> Result<(), Fail> {
     let found = read_and_spell::<Words>((), bytes.as_slice(), &mut block, again.as_mut_slice());
     assert_eq!(rt; found, Some(((), 8192, true)));
     assert_eq!(rt; block.as_slice().get(1), Some(&0x0807_0605_0403_0201));
-    assert_eq!(rt; again.as_slice(), bytes.as_slice());
+    assert!(rt; again.as_slice() == bytes.as_slice(), "spelled again");
     Ok(())
 }

@@ -48,16 +48,14 @@ fn expect_at<const L: usize>(
 {
     let mut bytes = room_for(alloc, width)?;
     pack::<L>(block, width, &mut bytes);
-    assert_eq!(rt;
-        bytes.as_slice(),
-        expected,
+    assert!(rt;
+        bytes.as_slice() == expected,
         "{case} packed at width {width}, {L} lanes"
     );
     let mut unpacked = Block::new();
     unpack::<L>(&bytes, width, &mut unpacked);
-    assert_eq!(rt;
-        unpacked.as_slice(),
-        block.as_slice(),
+    assert!(rt;
+        unpacked.as_slice() == block.as_slice(),
         "{case} unpacked at width {width}, {L} lanes"
     );
     Ok(())
@@ -83,9 +81,8 @@ fn expect_round_trips(
     expect_at::<8>(rt, alloc, &block, width, &bytes, case)?;
     expect_at::<16>(rt, alloc, &block, width, &bytes, case)?;
     for (place, value) in block.as_slice().iter().enumerate() {
-        assert_eq!(rt;
-            pick(&bytes, width, place),
-            *value,
+        assert!(rt;
+            pick(&bytes, width, place) == *value,
             "{case}, width {width}, place {place}"
         );
     }
@@ -142,9 +139,8 @@ fn a_value_that_ends_in_the_next_word_is_in_both(rt: HostRuntime) -> Result<(), 
 
 #[test]
 fn the_width_is_that_of_the_greatest_value(rt: HostRuntime) -> Result<(), Fail> {
-    assert_eq!(rt; width_of(&Block::new()), 0, "an empty block");
     let block = block_of(&[u64::MAX >> 1; 16]);
-    assert_eq!(rt; width_of(&block), 63);
+    assert_eq!(rt; (width_of(&Block::new()), width_of(&block)), (0, 63));
     let mut bytes = room_for(rt.alloc(), 63)?;
     pack::<4>(&block, 63, &mut bytes);
     assert!(rt;

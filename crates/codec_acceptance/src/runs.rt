@@ -86,14 +86,12 @@ fn values_from(
 fn one_value_is_one_run(rt: HostRuntime) -> Result<(), Fail> {
     let values = vec![in rt.alloc(); 0; 1024]?;
     let bytes = spelled(rt.alloc(), &block_of(values.as_slice()))?;
-    assert_eq!(rt;
-        bytes.as_slice(),
-        [1, 0, 0, 0, 0, 0, 0, 0, 0, 0, 0, 4].as_slice()
+    assert!(rt;
+        bytes.as_slice() == [1, 0, 0, 0, 0, 0, 0, 0, 0, 0, 0, 4].as_slice(),
+        "the bytes"
     );
-    assert_eq!(rt;
-        pairs_of(rt.alloc(), bytes.as_slice())?.as_slice(),
-        [(0, 1024)].as_slice()
-    );
+    let pairs = pairs_of(rt.alloc(), bytes.as_slice())?;
+    assert!(rt; pairs.as_slice() == [(0, 1024)].as_slice(), "the pairs");
     Ok(())
 }
 
@@ -102,16 +100,14 @@ fn a_last_value_apart_is_a_run_of_its_own(rt: HostRuntime) -> Result<(), Fail> {
     let mut values = vec![in rt.alloc(); 1; 1023]?;
     values.push(u64::MAX)?;
     let bytes = spelled(rt.alloc(), &block_of(values.as_slice()))?;
-    assert_eq!(rt;
-        bytes.as_slice(),
-        [
-            2, 0, 1, 0, 0, 0, 0, 0, 0, 0, 255, 3, 255, 255, 255, 255, 255, 255, 255, 255, 1, 0
-        ]
-        .as_slice()
-    );
-    assert_eq!(rt;
-        pairs_of(rt.alloc(), bytes.as_slice())?.as_slice(),
-        [(1, 1023), (u64::MAX, 1)].as_slice()
+    let expected = [
+        2, 0, 1, 0, 0, 0, 0, 0, 0, 0, 255, 3, 255, 255, 255, 255, 255, 255, 255, 255, 1, 0,
+    ];
+    assert!(rt; bytes.as_slice() == expected.as_slice(), "the bytes");
+    let pairs = pairs_of(rt.alloc(), bytes.as_slice())?;
+    assert!(rt;
+        pairs.as_slice() == [(1, 1023), (u64::MAX, 1)].as_slice(),
+        "the pairs"
     );
     Ok(())
 }

@@ -34,9 +34,8 @@ fn expect_built(
 {
     let column = encode_list(alloc, values, format)?;
     let built = built(alloc, &column, values)?;
-    assert_eq!(rt;
-        built.encoded(),
-        column.encoded(),
+    assert!(rt;
+        built.encoded() == column.encoded(),
         "{} values in {format:?}",
         values.len()
     );

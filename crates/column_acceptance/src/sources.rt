@@ -82,9 +82,8 @@ fn expect_blocks<const L: usize>(
 ) -> Result<(), Fail> {
     let found = blocks_of(alloc, &mut Cursor::<L>::new(column))?;
     let format = column.format();
-    assert_eq!(rt;
-        found.as_slice(),
-        values,
+    assert!(rt;
+        found.as_slice() == values,
         "{shape:?} in {format:?} at {L} lanes"
     );
     Ok(())
@@ -123,9 +122,8 @@ fn expect_any_order(rt: &impl Abort, alloc: Global, column: &Column, values: &[u
     ] {
         assert!(rt; number * 1024 < cursor.count(), "block {number}");
         cursor.block(number, &mut block, &mut steps);
-        assert_eq!(rt;
-            Some(block.as_slice()),
-            values.get(start..end),
+        assert!(rt;
+            Some(block.as_slice()) == values.get(start..end),
             "block {number}"
         );
     }
@@ -151,11 +149,7 @@ fn expect_look_up<P: PlaceSource>(
 ) -> Result<(), AllocError> {
     let found = looked_up(alloc, source, places)?;
     let expected = picked(alloc, values, places)?;
-    assert_eq!(rt;
-        found.as_slice(),
-        expected.as_slice(),
-        "the places {places:?}"
-    );
+    assert!(rt; found == expected, "the places {places:?}");
     Ok(())
 }
 
@@ -236,11 +230,10 @@ fn values_stay_the_same_when_their_block_is_opened(rt: HostRuntime) -> Result<()
 #[test]
 fn the_longest_column_of_zeros_is_sixteen_bytes(rt: HostRuntime) -> Result<(), Fail> {
     let column = read(rt.alloc(), &head(1, 0, 268_435_456))?;
-    assert_eq!(rt; column.count(), 268_435_456);
-    assert_eq!(rt; column.format(), Format::Static);
-    assert_eq!(rt; column.static_width(), 0);
-    assert_eq!(rt; column.encoded().len(), 16);
-    assert_eq!(rt; column.block_bytes(262_143).len(), 0);
+    let head = (column.format(), column.count(), column.static_width());
+    assert_eq!(rt; head, (Format::Static, 268_435_456, 0));
+    let lengths = (column.encoded().len(), column.block_bytes(262_143).len());
+    assert_eq!(rt; lengths, (16, 0));
     let places = [0, 1023, 1024, 134_217_728, 268_435_455, 0];
     let found = looked_up(rt.alloc(), &mut Gather::<8>::new(&column), &places)?;
     assert_eq!(rt; found.as_slice(), [0; 6].as_slice());

@@ -1,5 +1,8 @@
 //! Bytes that are no block, each kind beside bytes that are one.
 
+ghost use Rattle.definitions.specs.ColumnFiles.{IsColumnWidth};
+ghost use Rattle.block_core.specs.Formats.{format_of};
+
 use crate::blocks::{FORMATS, block_of, column_width, found, padded, spelled};
 use crate::shapes::{ALTERNATING, FALLING, Shape};
 use block_core::Format;
@@ -11,9 +14,10 @@ use std::test::Fail;
 // The base 5 of a cascade.
 const FIVE: &[u8] = b"\x05\0\0\0\0\0\0\0";
 
-// What is found where all the bytes are a block, or where no block is.
-fn whole(lawful: bool, bytes: &[u8]) -> Option<usize> {
-    if lawful { Some(bytes.len()) } else { None }
+// All the bytes are a block, or they begin with none.
+fn expect_block(rt: &impl Abort, format: Format, bytes: &[u8], lawful: bool, case: &str) {
+    let expected = if lawful { Some(bytes.len()) } else { None };
+    assert!(rt; found(format, bytes) == expected, "{case} in {format:?}");
 }
 
 // A base, if any, a width, and as many bytes as it takes, of which all are 0 but one.
@@ -59,12 +63,29 @@ fn expect_runs(
 ) -> Result<(), Fail> {
     for (format, base) in [(Format::Runs, b"".as_slice()), (Format::Delta1Runs, FIVE)] {
         let bytes = runs_after(alloc, base, count, runs)?;
-        let bytes = bytes.as_slice();
-        assert_eq!(rt;
-            found(format, bytes),
-            whole(lawful, bytes),
-            "{case} in {format:?}"
-        );
+        expect_block(rt, format, bytes.as_slice(), lawful, case);
+    }
+    Ok(())
+}
+
+// Bytes of which all are 0 but one, at a width, are a block or none, alone and as the differences of each cascade.
+fn expect_packed(
+    rt: &impl Abort,
+    alloc: Global,
+    width: u8,
+    place: usize,
+    byte: u8,
+    lawful: bool,
+) -> Result<(), Fail> {
+    let case = format!(in alloc; "width {width} with {byte} at byte {place}")?;
+    for (format, base) in [
+        (Format::Dynamic, b"".as_slice()),
+        (Format::Delta1Dynamic, FIVE),
+        (Format::Delta16Dynamic, FIVE),
+        (Format::ReferenceDynamic, FIVE),
+    ] {
+        let bytes = packed_after(alloc, base, width, place, byte)?;
+        expect_block(rt, format, bytes.as_slice(), lawful, case.as_str());
     }
     Ok(())
 }
@@ -92,20 +113,7 @@ fn a_width_byte_that_is_not_the_least_is_refused_alone_and_in_each_cascade(
         (65, 136, 1, false),
         (255, 399, 0b0100_0000, false),
     ] {
-        for (format, base) in [
-            (Format::Dynamic, b"".as_slice()),
-            (Format::Delta1Dynamic, FIVE),
-            (Format::Delta16Dynamic, FIVE),
-            (Format::ReferenceDynamic, FIVE),
-        ] {
-            let bytes = packed_after(rt.alloc(), base, width, place, byte)?;
-            let bytes = bytes.as_slice();
-            assert_eq!(rt;
-                found(format, bytes),
-                whole(lawful, bytes),
-                "{format:?} at width {width} with {byte} at byte {place}"
-            );
-        }
+        expect_packed(&rt, rt.alloc(), width, place, byte, lawful)?;
     }
     Ok(())
 }
@@ -129,12 +137,8 @@ fn a_base_and_differences_that_no_block_has_are_refused(rt: HostRuntime) -> Resu
         let mut head = base.to_le_bytes().to_vec(rt.alloc())?;
         head.extend_from_slice(&[1, first])?;
         let bytes = padded(rt.alloc(), head.as_slice(), others, 127)?;
-        let bytes = bytes.as_slice();
-        assert_eq!(rt;
-            found(format, bytes),
-            whole(lawful, bytes),
-            "{format:?} from {base} with {first} and then {others}"
-        );
+        let case = format!(in rt.alloc(); "{base} with {first} and then {others}")?;
+        expect_block(&rt, format, bytes.as_slice(), lawful, case.as_str());
     }
     Ok(())
 }
@@ -192,21 +196,23 @@ fn runs_of_differences_that_do_not_begin_with_0_are_refused(rt: HostRuntime) -> 
         (2, &[(u64::MAX, 1), (0, 1023)], false, "a late 0"),
     ] {
         let values = runs_after(rt.alloc(), b"", count, runs)?;
-        let values = values.as_slice();
-        assert_eq!(rt;
-            found(Format::Runs, values),
-            Some(values.len()),
-            "{case} as values"
-        );
+        expect_block(&rt, Format::Runs, values.as_slice(), true, case);
         let bytes = runs_after(rt.alloc(), FIVE, count, runs)?;
-        let bytes = bytes.as_slice();
-        assert_eq!(rt;
-            found(Format::Delta1Runs, bytes),
-            whole(lawful, bytes),
-            "{case}"
-        );
+        expect_block(&rt, Format::Delta1Runs, bytes.as_slice(), lawful, case);
     }
     Ok(())
+}
+
+// No proper prefix of the bytes is a block.
+fn expect_no_prefix(rt: &impl Abort, format: Format, width: u8, bytes: &[u8])
+    requires { IsColumnWidth (format_of format) width }
+{
+    for len in 0..bytes.len() {
+        assert!(rt;
+            check_block(format, width, &bytes[..len]).is_none(),
+            "{format:?} cut at {len}"
+        );
+    }
 }
 
 #[test]
@@ -224,13 +230,7 @@ fn a_spelling_that_is_cut_at_any_byte_is_refused_in_every_format(
         for format in FORMATS {
             let width = column_width(format, &block);
             let bytes = spelled::<8>(rt.alloc(), format, width, &block)?;
-            let bytes = bytes.as_slice();
-            for len in 0..bytes.len() {
-                assert!(rt;
-                    check_block(format, width, &bytes[..len]).is_none(),
-                    "{shape:?} in {format:?} cut at {len}"
-                );
-            }
+            expect_no_prefix(&rt, format, width, bytes.as_slice());
         }
     }
     Ok(())

@@ -29,9 +29,8 @@ fn expect_at<const L: usize>(
     requires fits { FitsFormat (format_of format) width full.now }
 {
     let bytes = spelled::<L>(alloc, format, width, full)?;
-    assert_eq!(rt;
-        bytes.as_slice(),
-        expected,
+    assert!(rt;
+        bytes.as_slice() == expected,
         "{shape:?} in {format:?} at {L} lanes"
     );
     assert!(rt;
@@ -53,17 +52,15 @@ fn expect_found(
     requires { IsColumnWidth (format_of format) width }
 {
     let len = Some(bytes.len());
-    assert_eq!(rt;
-        check_block(format, width, bytes),
-        len,
+    assert!(rt;
+        check_block(format, width, bytes) == len,
         "{shape:?} in {format:?}"
     );
     for after in [0, 1, 0xff] {
         let mut longer = Vec::from_slice(alloc, bytes)?;
         longer.push(after)?;
-        assert_eq!(rt;
-            check_block(format, width, longer.as_slice()),
-            len,
+        assert!(rt;
+            check_block(format, width, longer.as_slice()) == len,
             "{shape:?} in {format:?}, and a byte {after}"
         );
     }

@@ -3,6 +3,8 @@
 use crate::blocks::{FORMATS, block_of, column_width, gives_back, padded, spelled, spelling_len};
 use crate::shapes::{FALLING, Shape};
 use block_core::Format;
+use std::alloc::Global;
+use std::process::Abort;
 use std::test::Fail;
 
 // A file of one block has its 16 head bytes and these. A width w takes 128 * w bytes, a run 10 after a count of 2, a base 8.
@@ -29,6 +31,26 @@ fn each_format_takes_the_bytes_that_were_worked_out(rt: HostRuntime) -> Result<(
     Ok(())
 }
 
+// A block of the shape has these bytes, and they give it back.
+fn expect_bytes(
+    rt: &impl Abort,
+    alloc: Global,
+    format: Format,
+    shape: Shape,
+    expected: &[u8],
+) -> Result<(), Fail> {
+    let values = shape.values(alloc)?;
+    let block = block_of(values.as_slice());
+    let width = column_width(format, &block);
+    let bytes = spelled::<8>(alloc, format, width, &block)?;
+    assert!(rt; bytes.as_slice() == expected, "{shape:?} in {format:?}");
+    assert!(rt;
+        gives_back::<8>(format, width, expected, values.as_slice()),
+        "{shape:?} back from {format:?}"
+    );
+    Ok(())
+}
+
 // 1,024 times 2^63 - 1 has width 63 and only bits that are 1, 63 * 128 bytes of them. 1023, 1022 and so on have the base 1023
 // and two runs of differences. The differences of 1,024 times 2^64 - 1 to their least are 0, of width 0.
 #[test]
@@ -51,15 +73,7 @@ fn each_block_has_the_bytes_that_were_worked_out(rt: HostRuntime) -> Result<(), 
             b"\xff\xff\xff\xff\xff\xff\xff\xff\0",
         ),
     ] {
-        let values = shape.values(rt.alloc())?;
-        let block = block_of(values.as_slice());
-        let width = column_width(format, &block);
-        let bytes = spelled::<8>(rt.alloc(), format, width, &block)?;
-        assert_eq!(rt; bytes.as_slice(), expected, "{shape:?} in {format:?}");
-        assert!(rt;
-            gives_back::<8>(format, width, expected, values.as_slice()),
-            "{shape:?} out of {format:?}"
-        );
+        expect_bytes(&rt, rt.alloc(), format, shape, expected)?;
     }
     Ok(())
 }
