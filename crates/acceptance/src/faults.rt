@@ -26,11 +26,11 @@ const SOUND: Outside = Outside {
     room: 100,
 };
 
-/// The status and the output of the query over the example.
-fn query_amid(alloc: Global, outside: &Outside) -> Result<(u8, Vec<u8>), AllocError> {
+/// The status and the output of a query over the example.
+fn query_amid(alloc: Global, outside: &Outside, text: &str) -> Result<(u8, Vec<u8>), AllocError> {
     let words = [String::from_str(alloc, "query")?];
     let mut store = example_without(alloc, "", &[outside.load])?;
-    let mut input = source(alloc, TEXT.as_bytes(), &[outside.read])?;
+    let mut input = source(alloc, text.as_bytes(), &[outside.read])?;
     let mut out = MemSink::new(alloc, outside.room, numbers(alloc, &[outside.write])?)?;
     command(alloc, &words, &mut store, &mut input, &mut out)
 }
@@ -40,10 +40,11 @@ fn expect_amid(
     rt: &impl Abort,
     alloc: Global,
     outside: &Outside,
+    text: &str,
     status: u8,
     written: &str,
 ) -> Result<(), AllocError> {
-    let (found, taken) = query_amid(alloc, outside)?;
+    let (found, taken) = query_amid(alloc, outside, text)?;
     assert_eq!(rt; found, status, "room for {}", outside.room);
     assert_eq!(rt; taken.as_slice(), written.as_bytes());
     Ok(())
@@ -57,7 +58,25 @@ fn a_failed_load_is_a_fault_of_the_store(rt: HostRuntime) -> Result<(), Fail> {
         (2, 3, "fault: store\n"),
         (3, 0, "90\n"),
     ] {
-        expect_amid(&rt, rt.alloc(), &Outside { load, ..SOUND }, status, line)?;
+        expect_amid(
+            &rt,
+            rt.alloc(),
+            &Outside { load, ..SOUND },
+            TEXT,
+            status,
+            line,
+        )?;
+    }
+    Ok(())
+}
+
+/// The now file and the file of `a` are the only ones that are loaded.
+#[test]
+fn a_column_that_is_summed_and_tested_is_loaded_once(rt: HostRuntime) -> Result<(), Fail> {
+    let text = "select sum(a) from t where a between 20 and 30";
+    for (load, status, line) in [(1, 3, "fault: store\n"), (2, 0, "50\n")] {
+        let outside = Outside { load, ..SOUND };
+        expect_amid(&rt, rt.alloc(), &outside, text, status, line)?;
     }
     Ok(())
 }
@@ -70,7 +89,14 @@ fn a_failed_read_is_a_fault_of_the_input(rt: HostRuntime) -> Result<(), Fail> {
         (7, 3, "fault: input\n"),
         (8, 0, "90\n"),
     ] {
-        expect_amid(&rt, rt.alloc(), &Outside { read, ..SOUND }, status, line)?;
+        expect_amid(
+            &rt,
+            rt.alloc(),
+            &Outside { read, ..SOUND },
+            TEXT,
+            status,
+            line,
+        )?;
     }
     Ok(())
 }
@@ -90,7 +116,7 @@ fn a_failed_write_leaves_a_proper_prefix(rt: HostRuntime) -> Result<(), Fail> {
             write,
             ..SOUND
         };
-        expect_amid(&rt, rt.alloc(), &outside, status, written)?;
+        expect_amid(&rt, rt.alloc(), &outside, TEXT, status, written)?;
     }
     Ok(())
 }
@@ -108,7 +134,7 @@ fn an_output_of_little_room_takes_a_prefix(rt: HostRuntime) -> Result<(), Fail> 
                 room,
                 ..SOUND
             };
-            expect_amid(&rt, rt.alloc(), &outside, status, written)?;
+            expect_amid(&rt, rt.alloc(), &outside, TEXT, status, written)?;
         }
     }
     Ok(())
@@ -121,6 +147,6 @@ fn a_failed_load_and_a_failed_write_leave_a_part_of_the_line(rt: HostRuntime) ->
         room: 5,
         ..SOUND
     };
-    expect_amid(&rt, rt.alloc(), &outside, 3, "fault")?;
+    expect_amid(&rt, rt.alloc(), &outside, TEXT, 3, "fault")?;
     Ok(())
 }

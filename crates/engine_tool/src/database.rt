@@ -1,10 +1,12 @@
 //! The files of a table.
 
-ghost use Rattle.std.specs.Prelude.{◌≡◌, ℕ, ◌≤◌, List as Items, Some, Err, length, IfOk, IsErrOf};
+ghost use Rattle.std.specs.Prelude.{◌≡◌, ℕ, ◌≤◌, List as Items, Some, Ok, Err, length, IfOk, IsErrOf, IsTrue, ◌↔◌};
 ghost use Rattle.definitions.specs.Databases.{Files};
 ghost use Rattle.definitions.specs.Faults.{Rose};
 ghost use Rattle.definitions.specs.Names.{now_file_name, column_file_name};
+ghost use Rattle.definitions.specs.Outcomes.{Gives};
 ghost use Rattle.definitions.specs.Replies.{NowOf, ValuesOf, ColumnBytesOf, RowsOf, ColumnOf, KeptOf, SummedOf};
+ghost use Rattle.definitions.specs.Sums.{kept_values};
 ghost use Rattle.column_file.specs.Faults.{Says};
 ghost use Rattle.engine_tool.specs.Stops.{Ends, EndsAs};
 ghost use Rattle.engine_tool.specs.Texts.{condition_view, query_view};
@@ -14,7 +16,7 @@ use crate::decoding::decoded;
 use crate::now_file::{Now, Slot, read_now};
 use crate::stops::{Refusal, Stop, What};
 use crate::sums::kept_where;
-use crate::text::SumQuery;
+use crate::text::{Condition, SumQuery};
 use arrayvec::ArrayString;
 use column_file::{ColumnError, read_column};
 use std::alloc::Global;
@@ -157,7 +159,33 @@ pub fn column_of<S: Store>(
     rows_of(alloc, &file, now.rows, bytes)
 }
 
-/// The values that are summed: those of all rows, or of the rows that meet the condition.
+fn are_same(name: &Name, other: &Name) -> bool
+    ensures { IsTrue result ↔ (name.now ≡ other.now) }
+{
+    name.as_str() == other.as_str()
+}
+
+/// The values of the rows that meet the condition.
+fn kept_by(
+    alloc: Global,
+    summed: &[u64],
+    tested: &[u64],
+    condition: &Condition,
+) -> Result<List<u64>, Stop>
+    requires { length summed.now ≡ length tested.now }
+    ensures step { EndsAs result (Gives (kept_values summed.now tested.now condition.now.low condition.now.high)) }
+    ensures no_store { IsErrOf result Stop.StoreFault → ⊥ }
+    ensures no_input { IsErrOf result Stop.InputFault → ⊥ }
+    ensures no_usage { IsErrOf result (Stop.Refused Refusal.Usage) → ⊥ }
+{
+    match kept_where(alloc, summed, tested, condition.low, condition.high) {
+        Ok(kept) => Ok(kept),
+        Err(_) => Err(Stop::Memory),
+    }
+}
+
+/// The values that are summed: those of all rows, or of the rows that meet the condition. A column that is summed and tested is
+/// not loaded again.
 fn kept_of<S: Store>(
     alloc: Global,
     store: &mut S,
@@ -165,7 +193,9 @@ fn kept_of<S: Store>(
     now: Now,
     summed: List<u64>,
 ) -> Result<List<u64>, Stop>
-    requires { length summed ≡ now.rows }
+    requires rows { length summed ≡ now.rows }
+    requires loaded { (files : Files) → S.files store.old ≡ Some files →
+        ColumnOf files query.now.table (now_view now) query.now.summed (Ok summed) }
     ensures step { (files : Files) → S.files store.old ≡ Some files →
         EndsAs result (KeptOf files query.now.table (now_view now) summed (condition_view query.now.condition)) }
     ensures kept { S.files store.new ≡ S.files store.old }
@@ -177,17 +207,11 @@ fn kept_of<S: Store>(
     match &query.condition {
         None => Ok(summed),
         Some(condition) => {
-            let tested = column_of(alloc, store, &query.table, now, &condition.tested)?;
-            match kept_where(
-                alloc,
-                summed.as_slice(),
-                tested.as_slice(),
-                condition.low,
-                condition.high,
-            ) {
-                Ok(kept) => Ok(kept),
-                Err(_) => Err(Stop::Memory),
+            if are_same(&condition.tested, &query.summed) {
+                return kept_by(alloc, summed.as_slice(), summed.as_slice(), condition);
             }
+            let tested = column_of(alloc, store, &query.table, now, &condition.tested)?;
+            kept_by(alloc, summed.as_slice(), tested.as_slice(), condition)
         }
     }
 }
