@@ -1,3 +1,4 @@
 pub mod BlockLemmas
 pub mod EncodedLemmas
 pub mod BuilderLemmas
+pub mod PlainLemmas

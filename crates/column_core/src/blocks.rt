@@ -7,7 +7,7 @@ ghost use Rattle.block_core.specs.Formats.{format_of};
 ghost use Rattle.block_core.specs.Laws.{NoBlock};
 
 use crate::spellings::{
-    decode_delta_dynamic, decode_delta_runs, decode_dynamic, decode_runs, pick_dynamic, pick_word,
+    decode_delta_dynamic, decode_delta_runs, decode_dynamic, decode_runs, pick_dynamic,
 };
 use block_core::{Block, Format, Packing};
 use block_formats::{Dynamic, Static, Words};
@@ -89,7 +89,7 @@ pub fn decode_block<const L: usize>(
     }
 }
 
-/// The value at a place of the block that the bytes spell, in the formats that give one value cheaper than all.
+/// The value at a place of the block that the bytes spell, in the packed formats that give one value cheaper than all.
 pub(crate) fn pick_value(
     format: Format,
     static_width: u8,
@@ -102,7 +102,6 @@ pub(crate) fn pick_value(
         IfSome result (λ value. value ≡ slice_index values place) }
 {
     match format {
-        Format::Plain => Some(pick_word(bytes, place)),
         Format::Static => Some(strand_pack::pick(bytes, static_width, place)),
         Format::Dynamic => Some(pick_dynamic(bytes, place)),
         _ => None,

@@ -4,12 +4,13 @@ ghost use Rattle.std.specs.Prelude.{◌≡◌, ◌+◌, ◌*◌, ◌/◌, ◌%�
 ghost use Rattle.std.specs.Int.{from_le_bytes, w64};
 ghost use Rattle.definitions.specs.Blocks.{block_len, block_at};
 ghost use Rattle.definitions.specs.Columns.{max_rows};
-ghost use Rattle.definitions.specs.ColumnFiles.{BlockOf, IsColumnFile, IsColumnWidth, IsIndexed, fits_columns, static_width_of};
+ghost use Rattle.definitions.specs.ColumnFiles.{plain, BlockOf, IsColumnFile, IsColumnWidth, IsIndexed, fits_columns, static_width_of};
 ghost use Rattle.block_core.specs.Formats.{format_of, tag_of};
 ghost use Rattle.column_core.specs.Columns.{shape};
 
 use crate::blocks::{decode_block, pick_value};
 use crate::encodings::Encoded;
+use crate::heads::HEAD_LEN;
 use crate::words::{push_words, word_at};
 use block_core::{BLOCK_LEN, Block, Format};
 use std::marker::Model;
@@ -120,7 +121,16 @@ impl Column {
         }
     }
 
-    /// A value of a whole block, without opening the block, in the formats where that is cheap.
+    /// A value of a plain column, whose file is its head and a word for each value.
+    pub(crate) fn word(&self, place: u64) -> u64
+        requires plain { format_of self.now.format ≡ plain }
+        requires within { place < length self.now.values }
+        ensures { result ≡ slice_index self.now.values place }
+    {
+        word_at(words_in(self.encoded.bytes()), place as usize)
+    }
+
+    /// A value of a whole block, without opening the block, in the packed formats where that is cheap.
     pub(crate) fn pick(&self, number: u64, place: u64) -> Option<u64>
         requires whole { number < length self.now.values / block_len }
         requires within { place < block_len }
@@ -140,6 +150,14 @@ impl Column {
     {
         self.count() / BLOCK_LEN as u64
     }
+}
+
+/// What follows a file's head.
+fn words_in(bytes: &[u8]) -> &[u8]
+    requires { 16 ≤ length bytes.now }
+    ensures { result.now ≡ drop 16 bytes.now }
+{
+    &bytes[HEAD_LEN..]
 }
 
 /// The format that a file's head names.

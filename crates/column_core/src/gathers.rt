@@ -4,7 +4,7 @@ ghost use Rattle.std.specs.Prelude.{◌≡◌, ◌/◌, ◌<◌, length, slice_i
 ghost use Rattle.definitions.specs.Blocks.{block_len, block_at};
 
 use crate::columns::Column;
-use block_core::{BLOCK_LEN, Block, PlaceSource, Steps};
+use block_core::{BLOCK_LEN, Block, Format, PlaceSource, Steps};
 use std::marker::Model;
 
 /// To decode a block costs about as much as to pick one value of so many, if they are spread evenly.
@@ -13,8 +13,9 @@ const SPARSE: u64 = 16;
 /// How many values are picked from a block at least before it is decoded.
 const MIN_PICKS: u64 = 8;
 
-/// Looks values of a column up by their places, in any order. It holds one block. While places stay in a block that is
-/// decoded it is decoded once; where a value can be picked from the bytes, a block is decoded only once many were.
+/// Looks values of a column up by their places, in any order. A value of a `plain` column is read where it stands. In any other
+/// format it holds one block: while places stay in a block that is decoded it is decoded once, and where a value can be picked
+/// from the bytes, a block is decoded only once many were.
 #[derive(Drop)]
 pub struct Gather<'a, const L: usize> {
     column: &'a Column,
@@ -47,6 +48,23 @@ impl<'a, const L: usize> Gather<'a, L> {
             held: column.count(),
             picked: 0,
             picks: 0,
+        }
+    }
+
+    /// The value at a place whose block is not held. It stands apart so that a look-up in the block that is held, or in a plain
+    /// column, stays short.
+    #[inline(never)]
+    fn find(&mut self, place: u64) -> u64
+        requires { place < length self.old }
+        ensures value { result ≡ slice_index self.old place }
+        ensures list { self.new ≡ self.old }
+    {
+        let number = place / BLOCK_LEN as u64;
+        let offset = place % BLOCK_LEN as u64;
+        if number < self.column.whole_blocks() {
+            self.value_in(number, offset)
+        } else {
+            self.column.tail_value(offset)
         }
     }
 
@@ -95,11 +113,11 @@ impl<'a, const L: usize> PlaceSource for Gather<'a, L> {
         let number = place / BLOCK_LEN as u64;
         let offset = place % BLOCK_LEN as u64;
         if self.held == number {
-            self.block.as_slice()[offset as usize]
-        } else if number < self.column.whole_blocks() {
-            self.value_in(number, offset)
-        } else {
-            self.column.tail_value(offset)
+            return self.block.as_slice()[offset as usize];
+        }
+        match self.column.format() {
+            Format::Plain => self.column.word(place),
+            _ => self.find(place),
         }
     }
 }

@@ -50,15 +50,6 @@ pub fn decode_delta_runs<T: Transform<Base = u64>>(bytes: &[u8], into: &mut Bloc
     Cascade::<T, Runs>::decode((), head, bytes, into);
 }
 
-/// A value of a block of words.
-pub fn pick_word(bytes: &[u8], place: usize) -> u64
-    requires spelled { (values : List ℕ) × IsPlainBlock values bytes.now }
-    requires within { place < block_len }
-    ensures { (values : List ℕ) → IsPlainBlock values bytes.now → result ≡ slice_index values place }
-{
-    word_at(bytes, place)
-}
-
 /// A value of a block that is packed at its own width.
 pub fn pick_dynamic(bytes: &[u8], place: usize) -> u64
     requires spelled { (values : List ℕ) × IsDynamicBlock values bytes.now }

@@ -25,6 +25,3 @@ returns-then-self-number-clause-value g c =
     let within : number * block_len < length c.args.self.now = omega (arith, c.requires) in
     let held = held_is i.held number i.column.now.values c.args.self.now i.block c.if-self-number.true c.self.view_is within c.self.invariant in
     ap (λ l. get_or l (c.args.place % block_len) 0) (c.as_slice.ensures.values ∙ held) ∙ block_at-index c.args.self.now c.args.place
-
-pub returns-then-number-whole_blocks-clause-value : goal.returns-then-number-whole_blocks-clause-value
-returns-then-number-whole_blocks-clause-value g c = c.value_in.ensures.value ∙ block_at-index c.args.self.now c.args.place

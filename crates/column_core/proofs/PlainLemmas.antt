@@ -1,0 +1,19 @@
+-- The file of a plain column is its head and the words of its values.
+use Rattle.std.proofs.Common.{◌≡◌, ℕ, List, [], ◌∷◌, ◌++◌, length, take, drop, flat_map, refl, sym, ap, ap₂, ◌∙◌}
+use Rattle.std.proofs.lemmas.Grind.{flat_map-append}
+use Rattle.std.proofs.lemmas.List.{drop_at}
+use Rattle.definitions.specs.Columns.{column_head, word_bytes, words_of}
+use Rattle.definitions.specs.ColumnFiles.{plain, tag_of, Piece, ArePieces, piece_values, piece_bytes, IsEncoded}
+use Rattle.definitions.proofs.ColumnFileLaws.{length-column_head}
+
+plain_pieces : (width : ℕ) (pieces : List Piece) → ArePieces plain width pieces → piece_bytes pieces ≡ words_of (piece_values pieces)
+plain_pieces width [] are = refl
+plain_pieces width (piece ∷ pieces) are =
+    ap₂ (λ (a : List ℕ) (b : List ℕ). a ++ b) are.0.spelled (plain_pieces width pieces are.1) ∙ sym (flat_map-append word_bytes piece.values (piece_values pieces))
+
+pub plain_words : (width : ℕ) (values bytes : List ℕ) → IsEncoded plain width values bytes → drop 16 bytes ≡ words_of values
+plain_words width values bytes is =
+    let head = column_head (tag_of plain) width (length values) in
+    let all : piece_bytes is.pieces ++ words_of is.tail ≡ words_of values =
+    ap (λ (b : List ℕ). b ++ words_of is.tail) (plain_pieces width is.pieces is.blocks) ∙ sym (flat_map-append word_bytes (piece_values is.pieces) is.tail) ∙ ap words_of (sym is.values_are) in
+    ap (drop 16) is.bytes_are ∙ drop_at head (piece_bytes is.pieces ++ words_of is.tail) 16 (length-column_head (tag_of plain) width (length values)) ∙ all

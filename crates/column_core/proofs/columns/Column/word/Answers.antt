@@ -1,0 +1,27 @@
+use Rattle.std.proofs.Common.{◌≡◌, ap, subst, ◌∙◌}
+use Rattle.definitions.specs.Columns.{words_of}
+use Rattle.definitions.specs.ColumnFiles.{plain, IsEncoded}
+use Rattle.block_core.specs.Formats.{format_of}
+use Rattle.column_core.specs.Columns.{Shape}
+use Rattle.column_core.proofs.EncodedLemmas.{head_cells}
+use Rattle.column_core.proofs.PlainLemmas.{plain_words}
+use Rattle.column_core.proofs.columns.Column.word.Goals as goal
+
+-- the file is that of a plain column
+file : (c : goal.After-bytes) → IsEncoded plain c.self.inside.encoded.width c.args.self.now.values c.bytes.result.now
+file c =
+    let encoded = c.self.inside.encoded in
+    subst (λ format. IsEncoded format encoded.width c.args.self.now.values c.bytes.result.now) c.requires.plain
+    (subst (λ (seen : Shape). IsEncoded (format_of seen.format) encoded.width seen.values c.bytes.result.now) c.self.view_is c.bytes.ensures)
+
+pub words_in-requires : goal.words_in-requires
+words_in-requires c = (head_cells plain c.self.inside.encoded.width c.args.self.now.values c.bytes.result.now (file c)).long
+
+words : (c : goal.After-words_in) → c.words_in.result.now ≡ words_of c.args.self.now.values
+words c = c.words_in.ensures ∙ plain_words c.self.inside.encoded.width c.args.self.now.values c.bytes.result.now (file c.before)
+
+pub word_at-requires : goal.word_at-requires
+word_at-requires c = (c.args.self.now.values, (file c.before).column.words, words c, c.requires.within)
+
+pub returns : goal.returns
+returns c = c.word_at.ensures c.args.self.now.values (file c.before.before).column.words (words c.before)
