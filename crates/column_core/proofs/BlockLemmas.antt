@@ -3,10 +3,13 @@ use Rattle.std.proofs.Common.{◌≡◌, ℕ, ◌+◌, ◌-◌, ◌^◌, ◌<◌
 use Rattle.std.specs.Int.{from_le_bytes, w64}
 use Rattle.std.proofs.lemmas.List.{drop_at, get_or-append_right}
 use Rattle.definitions.specs.Columns.{word_bytes}
+use Rattle.definitions.specs.Blocks.{block_len, IsFull}
+use Rattle.definitions.specs.Differences.{least_of, reference_of}
 use Rattle.definitions.specs.Spellings.{IsCascade}
 use Rattle.definitions.specs.ColumnFiles.{Format, BlockOf}
 use Rattle.definitions.proofs.WordLaws.{length-word_bytes}
 use Rattle.definitions.proofs.BlockLaws.{BlockOf-short, IsCascade-base}
+use Rattle.definitions.proofs.DifferenceLaws.{least_of-le, reference_of-at, words_at}
 
 -- a spelling is short
 pub sized : (format : Format) (width : ℕ) (values : List ℕ) → (bytes : List ℕ) × BlockOf format width values bytes → (bytes : List ℕ) × (length bytes < 2 ^ 32) × BlockOf format width values bytes
@@ -30,3 +33,10 @@ inside base_of differences_of spells values bytes is =
       size = omega (arith, ap length is.spelled, length-append word is.inner, long);
       cell = λ i. ap (λ l. get_or l (8 + i) 0) is.spelled ∙ get_or-append_right word is.inner 8 (8 + i) 0 long (omega arith) ∙ (let e : 8 + i - 8 ≡ i = omega arith in ap (λ n. get_or is.inner n 0) e);
     }
+
+-- a value is the least one and its difference to it
+pub lowered : (values : List ℕ) (place : ℕ) → IsFull values → place < block_len → least_of values + get_or (reference_of values) place 0 ≡ get_or values place 0
+lowered values place is within =
+    let at = reference_of-at values place (omega (arith, is.whole)) in
+    let low = least_of-le values place (omega (arith, is.whole)) in
+    omega (arith, at, low)

@@ -8,6 +8,7 @@ ghost use Rattle.block_core.specs.Laws.{NoBlock};
 
 use crate::spellings::{
     decode_delta_dynamic, decode_delta_runs, decode_dynamic, decode_runs, pick_dynamic,
+    pick_reference,
 };
 use block_core::{Block, Format, Packing};
 use block_formats::{Dynamic, Static, Words};
@@ -89,7 +90,7 @@ pub fn decode_block<const L: usize>(
     }
 }
 
-/// The value at a place of the block that the bytes spell, in the packed formats that give one value cheaper than all.
+/// The value at a place of the block that the bytes spell, in the formats whose blocks give one value cheaper than all.
 pub(crate) fn pick_value(
     format: Format,
     static_width: u8,
@@ -104,6 +105,8 @@ pub(crate) fn pick_value(
     match format {
         Format::Static => Some(strand_pack::pick(bytes, static_width, place)),
         Format::Dynamic => Some(pick_dynamic(bytes, place)),
+        Format::Runs => Some(run_formats::pick(bytes, place)),
+        Format::ReferenceDynamic => Some(pick_reference(bytes, place)),
         _ => None,
     }
 }

@@ -4,6 +4,7 @@ ghost use Rattle.std.specs.Prelude.{◌≡◌, ◌+◌, ◌<◌, ◌≤◌, ℕ,
 ghost use Rattle.std.specs.Int.{from_le_bytes, w16, w64};
 ghost use Rattle.definitions.specs.Spellings.{IsPlainBlock, IsDynamicBlock, IsCascade};
 ghost use Rattle.definitions.specs.Blocks.{block_len};
+ghost use Rattle.definitions.specs.Differences.{least_of, reference_of};
 ghost use Rattle.definitions.specs.Runs.{IsRunsBlock};
 
 use crate::words::word_at;
@@ -59,6 +60,15 @@ pub fn pick_dynamic(bytes: &[u8], place: usize) -> u64
     strand_pack::pick(&bytes[1..], bytes[0], place)
 }
 
+/// A value of a block of differences to the least value, which are packed at their own width.
+pub fn pick_reference(bytes: &[u8], place: usize) -> u64
+    requires spelled { (values : List ℕ) × IsCascade least_of reference_of IsDynamicBlock values bytes.now }
+    requires within { place < block_len }
+    ensures { (values : List ℕ) → IsCascade least_of reference_of IsDynamicBlock values bytes.now → result ≡ slice_index values place }
+{
+    base_of(bytes).wrapping_add(pick_dynamic(differences_in(bytes), place))
+}
+
 /// The base that a cascade begins with.
 fn base_of(bytes: &[u8]) -> u64
     requires { 8 ≤ length bytes.now }
@@ -66,6 +76,14 @@ fn base_of(bytes: &[u8]) -> u64
 {
     let (words, _) = bytes.as_chunks::<8>();
     u64::from_le_bytes(words[0])
+}
+
+/// What stands behind the base of a cascade.
+fn differences_in(bytes: &[u8]) -> &[u8]
+    requires { 8 ≤ length bytes.now }
+    ensures { result.now ≡ drop 8 bytes.now }
+{
+    &bytes[BASE_LEN..]
 }
 
 /// How many runs a block has that begins at this place.

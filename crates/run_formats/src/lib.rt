@@ -8,4 +8,5 @@ mod run_blocks;
 mod writing;
 
 pub use pairs::RunIter;
+pub use reading::pick;
 pub use run_blocks::Runs;

@@ -1,8 +1,8 @@
 //! Reading a block: what its bytes have to be, and its values.
 
-ghost use Rattle.std.specs.Prelude.{◌≡◌, ◌≢◌, ◌↔◌, ℕ, List, length, map, replicate, take, ◌≤◌, IsTrue, MatchOption, Some, None};
+ghost use Rattle.std.specs.Prelude.{◌≡◌, ◌≢◌, ◌↔◌, ℕ, List, length, map, replicate, slice_index, take, ◌<◌, ◌≤◌, IsTrue, MatchOption, Some, None};
 ghost use Rattle.definitions.specs.Blocks.{block_len};
-ghost use Rattle.definitions.specs.Runs.{run_values};
+ghost use Rattle.definitions.specs.Runs.{run_values, IsRunsBlock};
 ghost use Rattle.run_formats.specs.Cells.{count_in, run_in, Passes, BeginsWithRuns};
 
 use crate::cells::{HEAD_LEN, block_size, cells_of, run_count_in, times_of, value_of};
@@ -54,6 +54,33 @@ fn goes_on(before: Option<u64>, value: u64) -> bool
         Some(last) => last == value,
         None => false,
     }
+}
+
+/// The value at a place of the block that these bytes spell. It goes over the runs before the value and writes nothing.
+pub fn pick(bytes: &[u8], place: usize) -> u64
+    requires spelled { (values : List ℕ) × IsRunsBlock values bytes.now }
+    requires within { place < block_len }
+    ensures { (values : List ℕ) → IsRunsBlock values bytes.now → result ≡ slice_index values place }
+{
+    value_at(cells_of(bytes, run_count_in(bytes)), place)
+}
+
+/// The value at a place of the runs.
+fn value_at(cells: &[[u8; 10]], place: usize) -> u64
+    requires { place < length (run_values (map run_in cells.now)) }
+    ensures { result ≡ slice_index (run_values (map run_in cells.now)) place }
+{
+    let mut left = place;
+    for cell in cells {
+        let times = times_of(cell) as usize;
+        if left < times {
+            return value_of(cell);
+        }
+        left -= times;
+    }
+
+    // The runs have a value at the place, so this is never reached.
+    0
 }
 
 /// Writes the values of the runs, one after the other.
