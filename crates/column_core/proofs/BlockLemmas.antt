@@ -1,15 +1,15 @@
 -- What a block's spelling begins with, and how long it is.
-use Rattle.std.proofs.Common.{◌≡◌, ℕ, ◌+◌, ◌-◌, ◌^◌, ◌<◌, List, length, take, drop, get_or, ap, ◌∙◌, arith, length-append}
+use Rattle.std.proofs.Common.{◌≡◌, ℕ, zero, suc, ◌+◌, ◌-◌, ◌*◌, ◌%◌, ◌^◌, ◌<◌, List, length, take, drop, get_or, sym, ap, ◌∙◌, arith, length-append}
 use Rattle.std.specs.Int.{from_le_bytes, w64}
 use Rattle.std.proofs.lemmas.List.{drop_at, get_or-append_right}
 use Rattle.definitions.specs.Columns.{word_bytes}
 use Rattle.definitions.specs.Blocks.{block_len, IsFull}
-use Rattle.definitions.specs.Differences.{least_of, reference_of}
+use Rattle.definitions.specs.Differences.{delta16_of, first_of, least_of, reference_of}
 use Rattle.definitions.specs.Spellings.{IsCascade}
 use Rattle.definitions.specs.ColumnFiles.{Format, BlockOf}
 use Rattle.definitions.proofs.WordLaws.{length-word_bytes}
 use Rattle.definitions.proofs.BlockLaws.{BlockOf-short, IsCascade-base}
-use Rattle.definitions.proofs.DifferenceLaws.{least_of-le, reference_of-at, words_at}
+use Rattle.definitions.proofs.DifferenceLaws.{delta16_of-early, delta16_of-late, first_of-word, least_of-le, reference_of-at, words_at}
 
 -- a spelling is short
 pub sized : (format : Format) (width : ℕ) (values : List ℕ) → (bytes : List ℕ) × BlockOf format width values bytes → (bytes : List ℕ) × (length bytes < 2 ^ 32) × BlockOf format width values bytes
@@ -40,3 +40,27 @@ lowered values place is within =
     let at = reference_of-at values place (omega (arith, is.whole)) in
     let low = least_of-le values place (omega (arith, is.whole)) in
     omega (arith, at, low)
+
+-- the value of a strand before a row, which is the first value before the first row
+abbrev pub before_row : List ℕ → ℕ → ℕ → ℕ
+before_row values strand zero = first_of values
+before_row values strand (suc row) = get_or values (row * 16 + strand) 0
+
+-- a value of a row is the one before it and its difference
+pub row_value : (values : List ℕ) (strand row : ℕ) → IsFull values → strand < 16 → row * 16 + strand < block_len
+    → (before_row values strand row + get_or (delta16_of values) (row * 16 + strand) 0) % 2 ^ 64 ≡ get_or values (row * 16 + strand) 0
+row_value values strand zero is early within =
+    let place : zero * 16 + strand ≡ strand = omega arith in
+    let at = delta16_of-early values strand early (omega (arith, is.whole)) in
+    let word = words_at values is.words strand in
+    let base = first_of-word values is in
+    let sum : (first_of values + get_or (delta16_of values) strand 0) % 2 ^ 64 ≡ get_or values strand 0 = omega (arith, at, word, base) in
+    ap (λ n. (first_of values + get_or (delta16_of values) n 0) % 2 ^ 64) place ∙ sum ∙ ap (λ n. get_or values n 0) (sym place)
+row_value values strand (suc row) is early within =
+    let earlier = row * 16 + strand in
+    let place : suc row * 16 + strand ≡ earlier + 16 = omega arith in
+    let at = delta16_of-late values earlier (omega (arith, is.whole, within)) in
+    let word = words_at values is.words (earlier + 16) in
+    let base = words_at values is.words earlier in
+    let sum : (get_or values earlier 0 + get_or (delta16_of values) (earlier + 16) 0) % 2 ^ 64 ≡ get_or values (earlier + 16) 0 = omega (arith, at, word, base) in
+    ap (λ n. (get_or values earlier 0 + get_or (delta16_of values) n 0) % 2 ^ 64) place ∙ sum ∙ ap (λ n. get_or values n 0) (sym place)

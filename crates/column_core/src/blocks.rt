@@ -7,8 +7,8 @@ ghost use Rattle.block_core.specs.Formats.{format_of};
 ghost use Rattle.block_core.specs.Laws.{NoBlock};
 
 use crate::spellings::{
-    decode_delta_dynamic, decode_delta_runs, decode_dynamic, decode_runs, pick_dynamic,
-    pick_reference,
+    decode_delta_dynamic, decode_delta_runs, decode_dynamic, decode_runs, pick_delta16,
+    pick_dynamic, pick_reference,
 };
 use block_core::{Block, Format, Packing};
 use block_formats::{Dynamic, Static, Words};
@@ -106,6 +106,7 @@ pub(crate) fn pick_value(
         Format::Static => Some(strand_pack::pick(bytes, static_width, place)),
         Format::Dynamic => Some(pick_dynamic(bytes, place)),
         Format::Runs => Some(run_formats::pick(bytes, place)),
+        Format::Delta16Dynamic => Some(pick_delta16(bytes, place)),
         Format::ReferenceDynamic => Some(pick_reference(bytes, place)),
         _ => None,
     }

@@ -4,7 +4,7 @@ ghost use Rattle.std.specs.Prelude.{◌≡◌, ◌+◌, ◌<◌, ◌≤◌, ℕ,
 ghost use Rattle.std.specs.Int.{from_le_bytes, w16, w64};
 ghost use Rattle.definitions.specs.Spellings.{IsPlainBlock, IsDynamicBlock, IsCascade};
 ghost use Rattle.definitions.specs.Blocks.{block_len};
-ghost use Rattle.definitions.specs.Differences.{least_of, reference_of};
+ghost use Rattle.definitions.specs.Differences.{delta16_of, first_of, least_of, reference_of};
 ghost use Rattle.definitions.specs.Runs.{IsRunsBlock};
 
 use crate::words::word_at;
@@ -15,6 +15,9 @@ use run_formats::Runs;
 
 /// How many bytes the base of a cascade takes.
 const BASE_LEN: usize = 8;
+
+/// How many strands a block has: neighbouring values stand in different ones.
+const STRANDS: usize = 16;
 
 pub fn decode_dynamic<const L: usize>(bytes: &[u8], into: &mut Block)
     requires { (values : List ℕ) × IsDynamicBlock values bytes.now }
@@ -67,6 +70,23 @@ pub fn pick_reference(bytes: &[u8], place: usize) -> u64
     ensures { (values : List ℕ) → IsCascade least_of reference_of IsDynamicBlock values bytes.now → result ≡ slice_index values place }
 {
     base_of(bytes).wrapping_add(pick_dynamic(differences_in(bytes), place))
+}
+
+/// A value of a block of differences to the value 16 places before, which are packed at their own width. It adds up the
+/// differences of its strand, 64 at most.
+pub fn pick_delta16(bytes: &[u8], place: usize) -> u64
+    requires spelled { (values : List ℕ) × IsCascade first_of delta16_of IsDynamicBlock values bytes.now }
+    requires within { place < block_len }
+    ensures { (values : List ℕ) → IsCascade first_of delta16_of IsDynamicBlock values bytes.now → result ≡ slice_index values place }
+{
+    let differences = differences_in(bytes);
+    let strand = place % STRANDS;
+    let mut value = base_of(bytes);
+    for row in 0..place / STRANDS + 1 {
+        let difference = pick_dynamic(differences, row * STRANDS + strand);
+        value = value.wrapping_add(difference);
+    }
+    value
 }
 
 /// The base that a cascade begins with.
