@@ -6,7 +6,7 @@ ghost use Rattle.definitions.specs.Runs.{AreRunsOf, IsRunsBlock};
 ghost use Rattle.run_formats.specs.Cells.{run_of};
 
 use block_core::{Block, Packing};
-use run_formats::{RunIter, Runs};
+use run_formats::{RunIter, Runs, pick};
 use std::alloc::{AllocError, Global};
 use std::test::Fail;
 
@@ -100,6 +100,8 @@ fn a_last_value_apart_is_a_run_of_its_own(rt: HostRuntime) -> Result<(), Fail> {
     let mut values = vec![in rt.alloc(); 1; 1023]?;
     values.push(u64::MAX)?;
     let bytes = spelled(rt.alloc(), &block_of(values.as_slice()))?;
+    let picked = (pick(bytes.as_slice(), 1022), pick(bytes.as_slice(), 1023));
+    assert_eq!(rt; picked, (1, u64::MAX));
     let expected = [
         2, 0, 1, 0, 0, 0, 0, 0, 0, 0, 255, 3, 255, 255, 255, 255, 255, 255, 255, 255, 1, 0,
     ];

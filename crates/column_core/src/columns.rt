@@ -130,7 +130,7 @@ impl Column {
         word_at(words_in(self.encoded.bytes()), place as usize)
     }
 
-    /// A value of a whole block, without opening the block, in the packed formats where that is cheap.
+    /// A value of a whole block, without opening the block, in the formats where that is cheap.
     pub(crate) fn pick(&self, number: u64, place: u64) -> Option<u64>
         requires whole { number < length self.now.values / block_len }
         requires within { place < block_len }
