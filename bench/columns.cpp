@@ -112,7 +112,6 @@ struct Dynamic {
 
 struct Runs {
     static constexpr int TAG = 3;
-    static constexpr size_t CELL = 10;
 
     static void encode(int, const uint64_t *values, Bytes &bytes) {
         const size_t front = bytes.size();
@@ -129,21 +128,7 @@ struct Runs {
         bytes.resize(front + 2 + CELL * runs);
     }
 
-    // A short run is written in as many places as a fixed number of stores has; what stands behind it is written later.
-    static void decode(int, const uint8_t *bytes, uint64_t *values) {
-        constexpr size_t SHORT = 4;
-        const size_t runs = number_at<uint16_t>(bytes);
-        const uint8_t *cell = bytes + 2;
-        for (size_t run = 0, place = 0; run < runs; run++, cell += CELL) {
-            const size_t times = number_at<uint16_t>(cell + 8);
-            if (times <= SHORT && place + SHORT <= VALUES) {
-                std::fill_n(values + place, SHORT, number_at<uint64_t>(cell));
-            } else {
-                std::fill_n(values + place, times, number_at<uint64_t>(cell));
-            }
-            place += times;
-        }
-    }
+    static void decode(int, const uint8_t *bytes, uint64_t *values) { write_runs(number_at<uint16_t>(bytes), bytes + 2, values); }
 
     static uint64_t pick(int, const uint8_t *bytes, size_t place) {
         const uint8_t *cell = bytes + 2;

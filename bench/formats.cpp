@@ -74,7 +74,6 @@ struct Dynamic {
 // Values and how often each repeats.
 struct Runs {
     typedef size_t Head;
-    static constexpr size_t CELL = 10;
 
     static size_t size(size_t runs) { return 2 + CELL * runs; }
 
@@ -107,20 +106,7 @@ struct Runs {
         return left == 0 ? size(runs) : 0;
     }
 
-    // A short run is written in as many places as a fixed number of stores has; what stands behind it is written later.
-    static void decode(size_t runs, const uint8_t *bytes, uint64_t *values) {
-        constexpr size_t SHORT = 4;
-        const uint8_t *cell = bytes + 2;
-        for (size_t run = 0, place = 0; run < runs; run++, cell += CELL) {
-            const size_t times = number_at<uint16_t>(cell + 8);
-            if (times <= SHORT && place + SHORT <= VALUES) {
-                std::fill_n(values + place, SHORT, number_at<uint64_t>(cell));
-            } else {
-                std::fill_n(values + place, times, number_at<uint64_t>(cell));
-            }
-            place += times;
-        }
-    }
+    static void decode(size_t runs, const uint8_t *bytes, uint64_t *values) { write_runs(runs, bytes + 2, values); }
 };
 
 // The differences to the value GAP places before, and of the first ones to the first value.
