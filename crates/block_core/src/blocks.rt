@@ -1,6 +1,6 @@
 //! A block of at most 1,024 values.
 
-ghost use Rattle.std.specs.Prelude.{◌≡◌, ◌<◌, ◌≤◌, ◌++◌, ◌∷◌, [], List, ℕ, length};
+ghost use Rattle.std.specs.Prelude.{◌≡◌, ◌+◌, ◌<◌, ◌≤◌, ◌++◌, ◌∷◌, [], List, ℕ, length};
 ghost use Rattle.std.specs.List.{refill};
 ghost use Rattle.std.specs.Borrow.{Lends, sem, u64 as word, Array};
 ghost use Rattle.block_core.specs.contracts.blocks.Block.{the_row};
@@ -52,6 +52,14 @@ impl Block {
         ensures { self.new ≡ self.old ++ value ∷ [] }
     {
         self.values.push(value);
+    }
+
+    /// Appends values, which must fit.
+    pub fn append(&mut self, values: &[u64])
+        requires { length self.old + length values.now ≤ block_len }
+        ensures { self.new ≡ self.old ++ values.now }
+    {
+        let _fits = self.values.try_extend_from_slice(values);
     }
 
     /// Makes the block full, whatever it holds, so that all of it can be written in place. On a full block it does nothing.

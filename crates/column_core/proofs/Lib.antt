@@ -2,3 +2,4 @@ pub mod BlockLemmas
 pub mod EncodedLemmas
 pub mod BuilderLemmas
 pub mod PlainLemmas
+pub mod ReserveLemmas

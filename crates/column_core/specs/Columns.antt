@@ -16,14 +16,23 @@ pub record Shape : Type 0 where
 abbrev pub shape : Format → List ℕ → Shape
 shape format values = record { format = format; values = values }
 
--- a list that is spelled in a format at a width
+-- so many bytes and values are reserved
+pub record Reserve : Type 0 where
+  pub bytes : ℕ
+  pub count : ℕ
+
+abbrev pub reserve : ℕ → ℕ → Reserve
+reserve bytes count = record { bytes = bytes; count = count }
+
+-- a list that is spelled in a format at a width, and what is reserved for it
 pub record Encoding : Type 0 where
   pub format : Format
   pub width : ℕ
+  pub reserve : Reserve
   pub values : List ℕ
 
-abbrev pub encoding : Format → ℕ → List ℕ → Encoding
-encoding format width values = record { format = format; width = width; values = values }
+abbrev pub encoding : Format → ℕ → Reserve → List ℕ → Encoding
+encoding format width reserve values = record { format = format; width = width; reserve = reserve; values = values }
 
 -- the list that the bytes spell in the format at the width
 abbrev pub Spelled : Format → ℕ → List ℕ → Type 0

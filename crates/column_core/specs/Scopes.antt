@@ -1,22 +1,26 @@
 -- What a builder may be given, and what it keeps.
-use Rattle.std.proofs.Common.{◌≡◌, ℕ, ◌*◌, ◌/◌, ◌%◌, ◌^◌, ◌<◌, ◌≤◌, true, List, ◌++◌, length, take, refl, sym, ◌∙◌, subst, arith, length-append}
+use Rattle.std.proofs.Common.{◌≡◌, ℕ, ◌*◌, ◌/◌, ◌%◌, ◌^◌, ◌<◌, ◌≤◌, Bool, true, List, ◌++◌, length, take, refl, sym, ◌∙◌, subst, arith, length-append}
 use Rattle.std.proofs.lemmas.List.{take-take, take-append-le, length-take, get_or-take}
 use Rattle.definitions.specs.Blocks.{block_len}
 use Rattle.definitions.specs.Columns.{max_rows}
 use Rattle.definitions.specs.Packed.{AreBelow}
 use Rattle.definitions.specs.ColumnFiles as columns
 use Rattle.definitions.specs.ColumnFiles.{IsColumnWidth, whole_blocks, fits_columns}
+use Rattle.definitions.specs.Sizes.{is_within_room}
+use Rattle.definitions.proofs.SizeLaws.{is_within_room-front}
 use Rattle.definitions.proofs.SpellingLaws.{AreBelow-from_fits, fits_from_AreBelow}
 use Rattle.block_core.specs.declared.formats.Format.{Format}
 use Rattle.block_core.specs.Formats.{format_of}
+use Rattle.column_core.specs.Columns.{Reserve}
 
 -- what pushes leave as it was of a builder
 pub record Frame : Type 0 where
   pub format : Format
   pub width : ℕ
+  pub reserve : Reserve
 
-abbrev pub frame : Format → ℕ → Frame
-frame format width = record { format = format; width = width }
+abbrev pub frame : Format → ℕ → Reserve → Frame
+frame format width reserve = record { format = format; width = width; reserve = reserve }
 
 -- whole blocks were encoded, and a block waits behind them
 pub record IsBuilding (format : Format) (width : ℕ) (values block : List ℕ) : Type 0 where
@@ -25,6 +29,13 @@ pub record IsBuilding (format : Format) (width : ℕ) (values block : List ℕ) 
   pub short : length block ≤ block_len
   pub few : length (values ++ block) ≤ max_rows
   pub fits : fits_columns (format_of format) width (values ++ block) ≡ true
+
+-- which lists are sure to be taken: those whose head, whole blocks and count are within what is reserved
+abbrev pub has_room : Frame → List ℕ → Bool
+has_room of values = is_within_room (format_of of.format) of.width of.reserve.bytes of.reserve.count values
+
+pub has_room-front : (of : Frame) (values rest : List ℕ) → has_room of (values ++ rest) ≡ true → has_room of values ≡ true
+has_room-front of values rest holds = is_within_room-front (format_of of.format) of.width of.reserve.bytes of.reserve.count values rest holds
 
 -- the whole blocks of a list are those of a longer one, as far as they go
 whole_blocks-front : (values rest : List ℕ) → whole_blocks values ≡ take (length values / block_len * block_len) (whole_blocks (values ++ rest))

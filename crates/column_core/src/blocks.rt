@@ -1,6 +1,7 @@
 //! One block in any format. The packing of each format is chosen here and nowhere else.
 
-ghost use Rattle.std.specs.Prelude.{◌≡◌, ◌+◌, ◌<◌, ◌++◌, ◌^◌, ℕ, List, length, take, slice_index, OnOk, OnErr, IfSome, MatchOption};
+ghost use Rattle.std.specs.Prelude.{◌≡◌, ◌+◌, ◌<◌, ◌≤◌, ◌++◌, ◌^◌, ℕ, List, length, take, slice_index, OnOk, OnErr, IsOk, IfSome, MatchOption, vec_len};
+ghost use Rattle.std.specs.Vec.{vec_capacity};
 ghost use Rattle.definitions.specs.Blocks.{block_len};
 ghost use Rattle.definitions.specs.ColumnFiles.{BlockOf, IsColumnWidth, LacksBlock, BeginsWith, BeginsWithBlock};
 ghost use Rattle.block_core.specs.Formats.{format_of};
@@ -123,6 +124,9 @@ pub(crate) fn append_block(
     ensures ok { OnOk result ((spelling : List ℕ) × BlockOf (format_of format) static_width full.now spelling
         × (bytes.new.items ≡ bytes.old.items ++ spelling)) }
     ensures err { OnErr result (bytes.new.items ≡ bytes.old.items) }
+    ensures capacity { vec_capacity bytes.old ≤ vec_capacity bytes.new }
+    ensures sure { (spelling : List ℕ) → BlockOf (format_of format) static_width full.now spelling →
+        vec_len bytes.old + length spelling ≤ vec_capacity bytes.old → IsOk result }
 {
     match format {
         Format::Plain => append::<Words>((), full, bytes),
@@ -164,6 +168,9 @@ fn append<P: Packing>(param: P::Param, full: &Block, bytes: &mut Vec<u8>) -> Res
     requires { (spelling : List ℕ) × (length spelling < 2 ^ 32) × P.spells param full.now spelling }
     ensures ok { OnOk result ((spelling : List ℕ) × P.spells param full.now spelling × (bytes.new.items ≡ bytes.old.items ++ spelling)) }
     ensures err { OnErr result (bytes.new.items ≡ bytes.old.items) }
+    ensures capacity { vec_capacity bytes.old ≤ vec_capacity bytes.new }
+    ensures sure { (spelling : List ℕ) → P.spells param full.now spelling →
+        vec_len bytes.old + length spelling ≤ vec_capacity bytes.old → IsOk result }
 {
     let head = P::head_of(param, full);
     let start = bytes.len();

@@ -1,11 +1,12 @@
 //! Columns built from values: one by one, or from a list.
 
-ghost use Rattle.std.specs.Prelude.{◌≡◌, ◌+◌, ◌%◌, ◌<◌, ◌≤◌, ◌++◌, ◌∷◌, [], ◌^◌, ℕ, length, slice_index, true, IfOk, OnOk, OnErr};
+ghost use Rattle.std.specs.Prelude.{◌≡◌, ◌+◌, ◌%◌, ◌<◌, ◌≤◌, ◌++◌, ◌∷◌, [], ◌^◌, ℕ, length, take, drop, slice_index, max, true, IsOk, IfOk, OnOk, OnErr};
 ghost use Rattle.definitions.specs.Blocks.{block_len, IsFull};
 ghost use Rattle.definitions.specs.Columns.{max_rows};
 ghost use Rattle.definitions.specs.ColumnFiles.{IsColumnWidth, FitsFormat, fits_columns, static_width_of};
 ghost use Rattle.block_core.specs.Formats.{format_of};
-ghost use Rattle.column_core.specs.Columns.{encoding, shape};
+ghost use Rattle.definitions.specs.Sizes.{front_size, file_size, is_within_room};
+ghost use Rattle.column_core.specs.Columns.{encoding, reserve, shape};
 ghost use Rattle.column_core.specs.Scopes.{IsBuilding};
 
 use crate::columns::Column;
@@ -31,7 +32,7 @@ impl Model for Builder {
 
     ghost use Rattle.std.specs.Prelude.{◌++◌};
 
-    ghost view = { λ builder. encoding builder.encoded.format builder.encoded.width (builder.encoded.values ++ builder.block) };
+    ghost view = { λ builder. encoding builder.encoded.format builder.encoded.width builder.encoded.reserve (builder.encoded.values ++ builder.block) };
 
     ghost invariant = { λ builder. IsBuilding builder.encoded.format builder.encoded.width builder.encoded.values builder.block };
 }
@@ -40,7 +41,7 @@ impl Builder {
     /// A builder of no values yet. With `Static` the blocks are packed at `static_width`, which is 0 with any other format.
     pub fn new(alloc: Global, format: Format, static_width: u8) -> Result<Builder, AllocError>
         requires { IsColumnWidth (format_of format) static_width }
-        ensures { IfOk result (λ builder. builder ≡ encoding format static_width []) }
+        ensures { IfOk result (λ builder. builder ≡ encoding format static_width (reserve 0 0) []) }
     {
         Ok(Builder {
             encoded: Encoded::new(alloc, format, static_width)?,
@@ -48,10 +49,41 @@ impl Builder {
         })
     }
 
+    /// Makes room: a push is `Ok` where the head and the whole blocks of the list have at most so many bytes and the list
+    /// at most so many values, and `finish` where the whole file has. An `Err` changes nothing.
+    pub fn reserve(&mut self, bytes: u64, count: u64) -> Result<(), AllocError>
+        ensures ok { OnOk result (self.new ≡ encoding self.old.format self.old.width
+            (reserve (max self.old.reserve.bytes bytes) (max self.old.reserve.count count)) self.old.values) }
+        ensures err { OnErr result (self.new ≡ self.old) }
+    {
+        self.encoded.reserve(bytes, count)
+    }
+
+    /// Takes as many of the first values as have a place in one block. An `Err` changes nothing.
+    fn take_some(&mut self, values: &[u64]) -> Result<usize, AllocError>
+        requires some { 0 < length values.now }
+        requires few { length self.old.values + length values.now ≤ max_rows }
+        requires in_scope { fits_columns (format_of self.old.format) self.old.width (self.old.values ++ values.now) ≡ true }
+        ensures some { IfOk result (λ n. 0 < n) }
+        ensures within { IfOk result (λ n. n ≤ length values.now) }
+        ensures ok { IfOk result (λ n. self.new ≡ encoding self.old.format self.old.width self.old.reserve (self.old.values ++ take n values.now)) }
+        ensures err { OnErr result (self.new ≡ self.old) }
+        ensures sure { is_within_room (format_of self.old.format) self.old.width self.old.reserve.bytes self.old.reserve.count (self.old.values ++ values.now) ≡ true → IsOk result }
+    {
+        if self.block.as_slice().len() == BLOCK_LEN {
+            flush(&mut self.encoded, &mut self.block)?;
+        }
+        let count = values.len().min(BLOCK_LEN - self.block.as_slice().len());
+        self.block.append(first_of(values, count));
+        Ok(count)
+    }
+
     /// The column of the values that were pushed. An `Err` gives up the builder.
     pub fn finish(self) -> Result<Column, AllocError>
         requires { self.width ≡ static_width_of (format_of self.format) self.values }
-        ensures { IfOk result (λ column. column ≡ shape self.format self.values) }
+        ensures ok { IfOk result (λ column. column ≡ shape self.format self.values) }
+        ensures sure { file_size (format_of self.format) self.width self.values ≤ self.reserve.bytes →
+            length self.values ≤ self.reserve.count → IsOk result }
     {
         let mut encoded = self.encoded;
         let mut block = self.block;
@@ -64,28 +96,29 @@ impl Builder {
 }
 
 impl Emit for Builder {
-    ghost use Rattle.std.specs.Prelude.{◌≡◌, ◌+◌, ◌<◌, ◌++◌, ◌∷◌, [], length, true, false, OnOk, OnErr};
+    ghost use Rattle.std.specs.Prelude.{◌≡◌, ◌+◌, ◌<◌, ◌≤◌, ◌++◌, ◌∷◌, [], ℕ, length, take, true, IsOk, OnOk, OnErr};
     ghost use Rattle.definitions.specs.Columns.{max_rows};
     ghost use Rattle.definitions.specs.ColumnFiles.{fits_columns};
     ghost use Rattle.block_core.specs.Formats.{format_of};
     ghost use Rattle.column_core.specs.Columns.{encoding};
-    ghost use Rattle.column_core.specs.Scopes.{Frame, frame, HoldsOfPrefixes-fits_columns};
+    ghost use Rattle.column_core.specs.Scopes.{Frame, frame, has_room, has_room-front, HoldsOfPrefixes-fits_columns};
 
     ghost Frame = { Frame };
 
-    ghost frame = { λ builder. frame builder.format builder.width };
+    ghost frame = { λ builder. frame builder.format builder.width builder.reserve };
 
-    ghost list = { λ builder. builder.values };
+    ghost pushed = { λ builder list. builder.values ≡ list };
 
     ghost scope = { λ of values. fits_columns (format_of of.format) of.width values };
 
-    ghost room = { λ _ _. false };
+    ghost room = { has_room };
 
     fn push(&mut self, value: u64) -> Result<(), AllocError>
         requires few { length self.old.values < max_rows }
         requires in_scope { fits_columns (format_of self.old.format) self.old.width (self.old.values ++ value ∷ []) ≡ true }
-        ensures ok { OnOk result (self.new ≡ encoding self.old.format self.old.width (self.old.values ++ value ∷ [])) }
+        ensures ok { OnOk result (self.new ≡ encoding self.old.format self.old.width self.old.reserve (self.old.values ++ value ∷ [])) }
         ensures err { OnErr result (self.new ≡ self.old) }
+        ensures sure { is_within_room (format_of self.old.format) self.old.width self.old.reserve.bytes self.old.reserve.count (self.old.values ++ value ∷ []) ≡ true → IsOk result }
     {
         if self.block.as_slice().len() == BLOCK_LEN {
             flush(&mut self.encoded, &mut self.block)?;
@@ -94,19 +127,35 @@ impl Emit for Builder {
         Ok(())
     }
 
+    fn extend(&mut self, values: &[u64]) -> Result<(), AllocError>
+        requires few { length self.old.values + length values.now ≤ max_rows }
+        requires in_scope { fits_columns (format_of self.old.format) self.old.width (self.old.values ++ values.now) ≡ true }
+        ensures ok { OnOk result (self.new ≡ encoding self.old.format self.old.width self.old.reserve (self.old.values ++ values.now)) }
+        ensures err { OnErr result ((n : ℕ) × (self.new ≡ encoding self.old.format self.old.width self.old.reserve (self.old.values ++ take n values.now))) }
+        ensures sure { is_within_room (format_of self.old.format) self.old.width self.old.reserve.bytes self.old.reserve.count (self.old.values ++ values.now) ≡ true → IsOk result }
+    {
+        let mut taken = 0;
+        while taken < values.len() {
+            taken += self.take_some(rest_from(values, taken))?;
+        }
+        Ok(())
+    }
+
     ghost scope_law = { λ of values rest. HoldsOfPrefixes-fits_columns (format_of of.format) of.width values rest };
 
-    ghost room_law = { λ _ _ _ e. e };
+    ghost room_law = { has_room-front };
 }
 
 /// Encodes a full block, and empties it. An `Err` changes nothing.
 fn flush(encoded: &mut Encoded, block: &mut Block) -> Result<(), AllocError>
     requires full { length block.old ≡ block_len }
     requires building { IsBuilding encoded.old.format encoded.old.width encoded.old.values block.old }
-    ensures ok { OnOk result (encoded.new ≡ encoding encoded.old.format encoded.old.width (encoded.old.values ++ block.old)) }
+    ensures ok { OnOk result (encoded.new ≡ encoding encoded.old.format encoded.old.width encoded.old.reserve (encoded.old.values ++ block.old)) }
     ensures emptied { OnOk result (block.new ≡ []) }
     ensures encoded_kept { OnErr result (encoded.new ≡ encoded.old) }
     ensures block_kept { OnErr result (block.new ≡ block.old) }
+    ensures sure { front_size (format_of encoded.old.format) encoded.old.width (encoded.old.values ++ block.old) ≤ encoded.old.reserve.bytes →
+        length (encoded.old.values ++ block.old) ≤ encoded.old.reserve.count → IsOk result }
 {
     words_fit(block.as_slice());
     encoded.push_block(block)?;
@@ -119,6 +168,22 @@ fn flush(encoded: &mut Encoded, block: &mut Block) -> Result<(), AllocError>
 fn words_fit(values: &[u64])
     ensures { (k : ℕ) → slice_index values.now k < 2 ^ 64 }
 {}
+
+/// The first values.
+fn first_of(values: &[u64], count: usize) -> &[u64]
+    requires { count ≤ length values.now }
+    ensures { result.now ≡ take count values.now }
+{
+    &values[..count]
+}
+
+/// The values from a place on.
+fn rest_from(values: &[u64], place: usize) -> &[u64]
+    requires { place ≤ length values.now }
+    ensures { result.now ≡ drop place values.now }
+{
+    &values[place..]
+}
 
 /// The width of a column with these whole blocks.
 fn least_width(format: Format, whole: &[u64]) -> u8

@@ -1,6 +1,7 @@
 //! A list in one format as the bytes of a file, which grow by whole blocks.
 
-ghost use Rattle.std.specs.Prelude.{◌≡◌, ◌+◌, ◌*◌, ◌/◌, ◌%◌, ◌<◌, ◌≤◌, ◌++◌, ◌∷◌, [], ℕ, List as Items, length, take, drop, ◌-◌, OnOk, OnErr, IfOk};
+ghost use Rattle.std.specs.Prelude.{◌≡◌, ◌+◌, ◌*◌, ◌/◌, ◌%◌, ◌<◌, ◌≤◌, ◌++◌, ◌∷◌, [], ℕ, List as Items, length, take, drop, ◌-◌, OnOk, OnErr, IsOk, IfOk, max, vec_len};
+ghost use Rattle.std.specs.Vec.{vec_capacity};
 ghost use Rattle.std.specs.List.{AllByRecursion};
 ghost use Rattle.definitions.specs.Blocks.{block_len, block_at, IsFull};
 ghost use Rattle.definitions.specs.Columns.{IsColumn, IsWord, max_rows, words_of};
@@ -8,7 +9,8 @@ ghost use Rattle.definitions.specs.ColumnFiles as columns;
 ghost use Rattle.definitions.specs.ColumnFiles.{BlockOf, IsColumnWidth, FitsFormat, IsEncoded, IsIndexed};
 ghost use Rattle.definitions.proofs.PieceLaws.{with_count};
 ghost use Rattle.block_core.specs.Formats.{format_of};
-ghost use Rattle.column_core.specs.Columns.{encoding, Spelled, Spelled-prop};
+ghost use Rattle.definitions.specs.Sizes.{front_size, file_size};
+ghost use Rattle.column_core.specs.Columns.{encoding, reserve, Spelled, Spelled-prop};
 
 use crate::blocks::append_block;
 use crate::heads::{COUNT_AT, HEAD_LEN, head_bytes};
@@ -18,7 +20,7 @@ use std::alloc::{AllocError, Global};
 use std::marker::Model;
 
 /// A list in one format, as the file that spells it, at a width that need not be the least yet. Beside the bytes it keeps
-/// where each whole block starts: 8 bytes a block.
+/// where each whole block starts: 8 bytes a block. It has room for what is reserved.
 #[derive(Drop)]
 pub struct Encoded {
     format: Format,
@@ -26,27 +28,33 @@ pub struct Encoded {
     count: u64,
     bytes: Vec<u8>,
     starts: Vec<u64>,
+    reserved_bytes: u64,
+    reserved_count: u64,
     ghost stored: { Spelled format width bytes.items } by { Spelled-prop format width bytes.items },
 }
 
 impl Model for Encoded {
-    ghost use Rattle.std.specs.Prelude.{◌≡◌, length};
+    ghost use Rattle.std.specs.Prelude.{◌≡◌, ◌≤◌, ◌/◌, length};
+    ghost use Rattle.std.specs.Vec.{vec_capacity};
+    ghost use Rattle.definitions.specs.Blocks.{block_len};
     ghost use Rattle.definitions.specs.ColumnFiles.{IsIndexed};
     ghost use Rattle.block_core.specs.Formats.{format_of};
-    ghost use Rattle.column_core.specs.Columns.{Encoding};
+    ghost use Rattle.column_core.specs.Columns.{Encoding, encoding, reserve};
 
     ghost Value = { Encoding };
 
-    ghost view = { λ encoded. record { format = encoded.format; width = encoded.width; values = encoded.stored.0 } };
+    ghost view = { λ encoded. encoding encoded.format encoded.width (reserve encoded.reserved_bytes encoded.reserved_count) encoded.stored.0 };
 
     ghost invariant = { λ encoded. (encoded.count ≡ length encoded.stored.0)
-        × IsIndexed (format_of encoded.format) encoded.width encoded.stored.0 encoded.bytes.items encoded.starts.items };
+        × IsIndexed (format_of encoded.format) encoded.width encoded.stored.0 encoded.bytes.items encoded.starts.items
+        × (encoded.reserved_bytes ≤ vec_capacity encoded.bytes)
+        × (encoded.reserved_count / block_len ≤ vec_capacity encoded.starts) };
 }
 
 impl Encoded {
     /// The file of no values.
     pub fn new(alloc: Global, format: Format, width: u8) -> Result<Encoded, AllocError>
-        ensures { IfOk result (λ encoded. encoded ≡ encoding format width []) }
+        ensures { IfOk result (λ encoded. encoded ≡ encoding format width (reserve 0 0) []) }
     {
         let mut bytes = Vec::with_capacity(alloc, HEAD_LEN)?;
         bytes.extend_from_slice(&head_bytes(format, width, 0))?;
@@ -56,6 +64,8 @@ impl Encoded {
             count: 0,
             bytes,
             starts: Vec::new(alloc),
+            reserved_bytes: 0,
+            reserved_count: 0,
         })
     }
 
@@ -63,7 +73,7 @@ impl Encoded {
     pub fn adopt(format: Format, width: u8, count: u64, bytes: Vec<u8>, starts: Vec<u64>) -> Encoded
         requires { (values : Items ℕ) × (count ≡ length values) × IsIndexed (format_of format) width values bytes.items starts.items }
         ensures { (values : Items ℕ) → IsEncoded (format_of format) width values bytes.items →
-            result ≡ encoding format width values }
+            result ≡ encoding format width (reserve 0 0) values }
     {
         Encoded {
             format,
@@ -71,7 +81,24 @@ impl Encoded {
             count,
             bytes,
             starts,
+            reserved_bytes: 0,
+            reserved_count: 0,
         }
+    }
+
+    /// Makes room for a file of so many bytes and values. An `Err` changes nothing.
+    pub fn reserve(&mut self, bytes: u64, count: u64) -> Result<(), AllocError>
+        ensures ok { OnOk result (self.new ≡ encoding self.old.format self.old.width
+            (reserve (max self.old.reserve.bytes bytes) (max self.old.reserve.count count)) self.old.values) }
+        ensures err { OnErr result (self.new ≡ self.old) }
+    {
+        let bytes = self.reserved_bytes.max(bytes);
+        let count = self.reserved_count.max(count);
+        make_room(&mut self.bytes, bytes as usize)?;
+        make_room(&mut self.starts, count as usize / BLOCK_LEN)?;
+        self.reserved_bytes = bytes;
+        self.reserved_count = count;
+        Ok(())
     }
 
     pub fn format(&self) -> Format
@@ -130,8 +157,10 @@ impl Encoded {
         requires lawful { IsColumnWidth (format_of self.old.format) self.old.width }
         requires full { IsFull full.now }
         requires fits { FitsFormat (format_of self.old.format) self.old.width full.now }
-        ensures ok { OnOk result (self.new ≡ encoding self.old.format self.old.width (self.old.values ++ full.now)) }
+        ensures ok { OnOk result (self.new ≡ encoding self.old.format self.old.width self.old.reserve (self.old.values ++ full.now)) }
         ensures err { OnErr result (self.new ≡ self.old) }
+        ensures sure { front_size (format_of self.old.format) self.old.width (self.old.values ++ full.now) ≤ self.old.reserve.bytes →
+            length (self.old.values ++ full.now) ≤ self.old.reserve.count → IsOk result }
     {
         let count = self.count + BLOCK_LEN as u64;
         grow(
@@ -151,8 +180,9 @@ impl Encoded {
         requires whole { length self.old.values % block_len ≡ 0 }
         requires few { length self.old.values + length tail.now ≤ max_rows }
         requires short { length tail.now < block_len }
-        ensures ok { OnOk result (self.new ≡ encoding self.old.format self.old.width (self.old.values ++ tail.now)) }
+        ensures ok { OnOk result (self.new ≡ encoding self.old.format self.old.width self.old.reserve (self.old.values ++ tail.now)) }
         ensures err { OnErr result (self.new ≡ self.old) }
+        ensures sure { file_size (format_of self.old.format) self.old.width (self.old.values ++ tail.now) ≤ self.old.reserve.bytes → IsOk result }
     {
         let count = self.count + tail.len() as u64;
         finish(tail, count, &mut self.bytes)?;
@@ -177,6 +207,11 @@ fn grow(
     ensures starts { OnOk result (starts.new.items ≡ starts.old.items ++ length bytes.old.items ∷ []) }
     ensures bytes_kept { OnErr result (bytes.new.items ≡ bytes.old.items) }
     ensures starts_kept { OnErr result (starts.new.items ≡ starts.old.items) }
+    ensures bytes_capacity { vec_capacity bytes.old ≤ vec_capacity bytes.new }
+    ensures starts_capacity { vec_capacity starts.old ≤ vec_capacity starts.new }
+    ensures sure { (spelling : Items ℕ) → BlockOf (format_of format) width full.now spelling →
+        vec_len bytes.old + length spelling ≤ vec_capacity bytes.old →
+        vec_len starts.old < vec_capacity starts.old → IsOk result }
 {
     starts.push(bytes.len() as u64)?;
     match append_block(format, width, full, bytes) {
@@ -196,10 +231,24 @@ fn finish(tail: &[u64], count: u64, bytes: &mut Vec<u8>) -> Result<(), AllocErro
     requires { 16 ≤ length bytes.old.items }
     ensures ok { OnOk result (bytes.new.items ≡ with_count count (bytes.old.items ++ words_of tail.now)) }
     ensures err { OnErr result (bytes.new.items ≡ bytes.old.items) }
+    ensures capacity { vec_capacity bytes.old ≤ vec_capacity bytes.new }
+    ensures sure { vec_len bytes.old + 8 * length tail.now ≤ vec_capacity bytes.old → IsOk result }
 {
     append_words(bytes, tail)?;
     set_count(bytes, count);
     Ok(())
+}
+
+/// Makes room for so many items in all. The items stay, and so they do after an `Err`.
+fn make_room<T>(items: &mut Vec<T>, wanted: usize) -> Result<(), AllocError>
+    ensures items { items.new.items ≡ items.old.items }
+    ensures ok { OnOk result (wanted ≤ vec_capacity items.new) }
+    ensures capacity { vec_capacity items.old ≤ vec_capacity items.new }
+{
+    if wanted <= items.len() {
+        return Ok(());
+    }
+    items.reserve(wanted - items.len())
 }
 
 /// The spelling of a whole block, which ends where the next one starts or the tail of so many bytes.
@@ -244,7 +293,8 @@ fn tail_size(count: u64) -> usize
 /// Writes how many values there are into the head.
 fn set_count(bytes: &mut Vec<u8>, count: u64)
     requires { 16 ≤ length bytes.old.items }
-    ensures { bytes.new.items ≡ with_count count bytes.old.items }
+    ensures items { bytes.new.items ≡ with_count count bytes.old.items }
+    ensures capacity { vec_capacity bytes.new ≡ vec_capacity bytes.old }
 {
     bytes[COUNT_AT..HEAD_LEN].copy_from_slice(&word_bytes_of(count));
 }

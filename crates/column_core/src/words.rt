@@ -1,6 +1,7 @@
 //! Numbers as words of 8 bytes, the little end first.
 
-ghost use Rattle.std.specs.Prelude.{◌≡◌, ◌+◌, ◌*◌, ◌/◌, ◌<◌, ◌≤◌, ◌++◌, [], ℕ, length, slice_index, OnOk, OnErr, List as Items};
+ghost use Rattle.std.specs.Prelude.{◌≡◌, ◌+◌, ◌*◌, ◌/◌, ◌<◌, ◌≤◌, ◌++◌, [], ℕ, length, slice_index, OnOk, OnErr, IsOk, vec_len, List as Items};
+ghost use Rattle.std.specs.Vec.{vec_capacity};
 ghost use Rattle.std.specs.List.{AllByRecursion};
 ghost use Rattle.definitions.specs.Blocks.{block_len};
 ghost use Rattle.definitions.specs.Columns.{IsWord, word_bytes, words_of};
@@ -20,6 +21,8 @@ pub fn word_bytes_of(value: u64) -> [u8; 8]
 pub fn append_words(bytes: &mut Vec<u8>, values: &[u64]) -> Result<(), AllocError>
     ensures ok { OnOk result (bytes.new.items ≡ bytes.old.items ++ words_of values.now) }
     ensures err { OnErr result (bytes.new.items ≡ bytes.old.items) }
+    ensures capacity { vec_capacity bytes.old ≤ vec_capacity bytes.new }
+    ensures sure { vec_len bytes.old + 8 * length values.now ≤ vec_capacity bytes.old → IsOk result }
 {
     bytes.reserve(8 * values.len())?;
     for value in values {

@@ -12,3 +12,4 @@ pub mod WidthLaws
 pub mod FaultLaws
 pub mod SumLaws
 pub mod WorkedExamples
+pub mod SizeLaws

@@ -16,3 +16,5 @@ pub mod Spellings
 pub mod Differences
 pub mod Runs
 pub mod ColumnFiles
+pub mod Sizes
+pub mod Costs

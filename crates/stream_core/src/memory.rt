@@ -70,6 +70,7 @@ impl Source for MemSource {
         ensures told { is_some (Some self.new.left) ≡ is_some (Some self.old.left) }
         ensures cause { HasCause self.old.faults self.new.faults result }
         ensures later { self.old.faults ≤ self.new.faults }
+        ensures calm { IfOk result (λ _. self.new.faults ≡ self.old.faults) }
         ensures count { self.new.faults < 2 ^ 64 }
         ensures fails { is_err result ≡ is_failing self.old.failing self.old.calls }
         ensures piece { IfOk result (λ count. count ≤ self.old.piece) }
@@ -148,6 +149,7 @@ impl Sink for MemSink {
         ensures told { is_some (Some self.new.taken) ≡ is_some (Some self.old.taken) }
         ensures cause { HasCause self.old.faults self.new.faults result }
         ensures later { self.old.faults ≤ self.new.faults }
+        ensures calm { IfOk result (λ _. self.new.faults ≡ self.old.faults) }
         ensures count { self.new.faults < 2 ^ 64 }
         ensures fails { is_err result ≡ cannot_write self.old piece.now }
         ensures fits { IfOk result (λ count. count ≡ min (length piece.now) (self.old.capacity - length self.old.taken)) }
@@ -253,6 +255,7 @@ impl Store for MemStore {
     fn load(&mut self, alloc: Global, name: &str, limit: u64) -> Result<Option<Bytes>, LoadError>
         ensures loaded { IsLoaded (Some (files_of self.old)) name.now limit result }
         ensures unchanged { Some (files_of self.new) ≡ Some (files_of self.old) }
+        ensures calm { IfOk result (λ _. faults_of self.new ≡ faults_of self.old) }
         ensures cause { IsErrOf result LoadError.Failed → Rose (faults_of self.old) (faults_of self.new) }
         ensures later { faults_of self.old ≤ faults_of self.new }
         ensures count { faults_of self.new < 2 ^ 64 }

@@ -25,6 +25,7 @@ pub trait Source {
         ensures told { is_some (left self.new) ≡ is_some (left self.old) }
         ensures cause { HasCause (faults self.old) (faults self.new) result }
         ensures later { faults self.old ≤ faults self.new }
+        ensures calm { IfOk result (λ _. faults self.new ≡ faults self.old) }
         ensures count { faults self.new < 2 ^ 64 };
 }
 
@@ -74,6 +75,9 @@ pub fn read_all<I: Source>(alloc: Global, input: &mut I, limit: u64) -> Result<B
     ensures stopped { OnErr result ((count : ℕ) × (count ≤ limit + 1) × ConsumesSome (I.left input.old) (I.left input.new) count) }
     ensures told { is_some (I.left input.new) ≡ is_some (I.left input.old) }
     ensures cause { IsErrOf result ReadError.Failed → Rose (I.faults input.old) (I.faults input.new) }
+    ensures failed { IsErrOf result ReadError.Failed → ((count : ℕ) × (count ≤ limit) × ConsumesSome (I.left input.old) (I.left input.new) count) }
+    ensures memory { IsErrOf result ReadError.Memory → ((count : ℕ) × (count ≤ limit) × ConsumesSome (I.left input.old) (I.left input.new) count) }
+    ensures calm { IfOk result (λ _. I.faults input.new ≡ I.faults input.old) }
     ensures later { I.faults input.old ≤ I.faults input.new }
 {
     let mut text = Vec::new(alloc);

@@ -1,6 +1,6 @@
 //! Stores of files.
 
-ghost use Rattle.std.specs.Prelude.{◌≡◌, ℕ, ◌^◌, ◌<◌, ◌≤◌, Option, IsErrOf};
+ghost use Rattle.std.specs.Prelude.{◌≡◌, ℕ, ◌^◌, ◌<◌, ◌≤◌, Option, IsErrOf, IfOk};
 ghost use Rattle.definitions.specs.Databases.{Files};
 ghost use Rattle.definitions.specs.Faults.{Rose};
 ghost use Rattle.stream_core.specs.Stores.{IsLoaded, IsSaved};
@@ -62,6 +62,7 @@ pub trait Store {
     fn load(&mut self, alloc: Global, name: &str, limit: u64) -> Result<Option<Bytes>, LoadError>
         ensures loaded { IsLoaded (files self.old) name.now limit result }
         ensures unchanged { files self.new ≡ files self.old }
+        ensures calm { IfOk result (λ _. faults self.new ≡ faults self.old) }
         ensures cause { IsErrOf result LoadError.Failed → Rose (faults self.old) (faults self.new) }
         ensures later { faults self.old ≤ faults self.new }
         ensures count { faults self.new < 2 ^ 64 };

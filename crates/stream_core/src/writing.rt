@@ -24,6 +24,7 @@ pub trait Sink {
         ensures told { is_some (taken self.new) ≡ is_some (taken self.old) }
         ensures cause { HasCause (faults self.old) (faults self.new) result }
         ensures later { faults self.old ≤ faults self.new }
+        ensures calm { IfOk result (λ _. faults self.new ≡ faults self.old) }
         ensures count { faults self.new < 2 ^ 64 };
 }
 
@@ -33,6 +34,7 @@ pub fn write_all<O: Sink>(out: &mut O, bytes: &[u8]) -> Result<(), Failed>
     ensures prefix { OnErr result (AppendsProperPrefix (O.taken out.old) (O.taken out.new) bytes.now) }
     ensures told { is_some (O.taken out.new) ≡ is_some (O.taken out.old) }
     ensures cause { HasCause (O.faults out.old) (O.faults out.new) result }
+    ensures calm { OnOk result (O.faults out.new ≡ O.faults out.old) }
     ensures later { O.faults out.old ≤ O.faults out.new }
 {
     let mut start = 0;

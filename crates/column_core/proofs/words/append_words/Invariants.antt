@@ -8,3 +8,4 @@ abbrev pub invariant-loop-value : goal.invariant-loop-value
 invariant-loop-value l =
     (l.bytes.items ++ words_of (drop l.value-index l.values) ≡ l.fn.bytes.items ++ words_of l.values)
     × (vec_len l.bytes + 8 * (length l.values - l.value-index) ≤ vec_capacity l.bytes)
+    × (vec_capacity l.fn.bytes ≤ vec_capacity l.bytes)

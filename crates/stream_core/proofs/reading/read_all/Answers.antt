@@ -28,3 +28,11 @@ returns-in_err-extend_from_slice-clause-stopped g c =
     let stopped : (count : ℕ) × (count ≤ c.args.limit + 1) × ConsumesSome (g.I.Source.left c.args.input.now) (g.I.Source.left c.read.new.self) count =
     (length text.items + c.in_ok-count.count, omega (arith, text.ok.0), read) in
     OnErr-always _ stopped
+
+pub returns-in_err-extend_from_slice-clause-memory : goal.returns-in_err-extend_from_slice-clause-memory
+returns-in_err-extend_from_slice-clause-memory g c = λ _.
+    let text = c.loop-text.text in
+    let bound = c.in_ok-count.ensures.bound in
+    let read : ConsumesSome (g.I.Source.left c.args.input.now) (g.I.Source.left c.read.new.self) (length text.items + c.in_ok-count.count) =
+    ConsumesSome-read _ _ _ _ _ _ c.loop-text.invariant.read c.in_ok-count.ensures.bytes.0 bound.0 in
+    (length text.items + c.in_ok-count.count, omega (arith, text.ok.0), read)

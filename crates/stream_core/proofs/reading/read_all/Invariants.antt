@@ -11,6 +11,7 @@ invariant-loop-text g l = record {
   short : vec_len l.text ≤ l.limit;
   told : is_some (g.I.Source.left l.input) ≡ is_some (g.I.Source.left l.initial.input);
   later : g.I.Source.faults l.initial.input ≤ g.I.Source.faults l.input;
+  calm : g.I.Source.faults l.input ≡ g.I.Source.faults l.initial.input;
 }
 
 abbrev pub decreases-loop-text : goal.decreases-loop-text

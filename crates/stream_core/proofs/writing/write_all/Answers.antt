@@ -25,4 +25,5 @@ loop-start-preserved g c =
           (Appends-append _ _ _ _ _ c.loop-start.invariant.written written);
       told = c.in_ok-start.ensures.told ∙ c.loop-start.invariant.told;
       later = omega (arith, c.loop-start.invariant.later, c.in_ok-start.ensures.later);
+      calm = c.in_ok-start.ensures.calm ∙ c.loop-start.invariant.calm;
     }

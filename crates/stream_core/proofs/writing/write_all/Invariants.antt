@@ -10,6 +10,7 @@ invariant-loop-start g l = record {
   written : Appends (g.O.Sink.taken l.initial.out) (g.O.Sink.taken l.out) (take l.start l.bytes);
   told : is_some (g.O.Sink.taken l.out) ≡ is_some (g.O.Sink.taken l.initial.out);
   later : g.O.Sink.faults l.initial.out ≤ g.O.Sink.faults l.out;
+  calm : g.O.Sink.faults l.out ≡ g.O.Sink.faults l.initial.out;
 }
 
 abbrev pub decreases-loop-start : goal.decreases-loop-start

@@ -1,8 +1,11 @@
-use Rattle.std.proofs.Common.{◌+◌, ◌++◌, ap}
+use Rattle.std.proofs.Common.{◌≤◌, ◌+◌, ◌++◌, length, ap, arith}
+use Rattle.std.proofs.lemmas.Bool.{false≢true}
+use Rattle.definitions.specs.Sizes.{front_size}
 use Rattle.definitions.proofs.BlockLaws.{BlockOf-spelling}
 use Rattle.block_core.specs.Formats.{format_of}
-use Rattle.column_core.specs.Columns.{encoding}
+use Rattle.column_core.specs.Columns.{encoding, reserve}
 use Rattle.column_core.proofs.EncodedLemmas.{stored_is, change_is, pushed, unchanged, head_fits, on_err}
+use Rattle.column_core.proofs.ReserveLemmas.{RoomForBlock, room_for_block}
 use Rattle.column_core.proofs.encodings.Encoded.push_block.Goals as goal
 
 pub grow-requires-clause-head : goal.grow-requires-clause-head
@@ -15,14 +18,15 @@ grow-requires-clause-spelled c =
 pub invariant_of-self : goal.invariant_of-self
 invariant_of-self c =
     let i = c.self.inside in
-    change_is i.format i.width i.count c.grow.new.bytes.items c.grow.new.starts.items i.stored.0 c.in_err-grow.self-1-own.given.0
-    (unchanged i.format i.width i.count i.stored.0 i.bytes.items i.starts.items c.grow.new.bytes.items c.grow.new.starts.items c.self.invariant.1 c.self.invariant.0 c.in_err-grow.ensures.bytes_kept c.in_err-grow.ensures.starts_kept)
+    let both = change_is i.format i.width i.count c.grow.new.bytes.items c.grow.new.starts.items i.stored.0 c.in_err-grow.self-1-own.given.0
+    (unchanged i.format i.width i.count i.stored.0 i.bytes.items i.starts.items c.grow.new.bytes.items c.grow.new.starts.items c.self.invariant.1 c.self.invariant.0 c.in_err-grow.ensures.bytes_kept c.in_err-grow.ensures.starts_kept) in
+    (both.0, both.1, omega (arith, c.self.invariant.2, c.in_err-grow.ensures.bytes_capacity), omega (arith, c.self.invariant.3, c.in_err-grow.ensures.starts_capacity))
 
 pub returns-in_err-grow-clause-err : goal.returns-in_err-grow-clause-err
 returns-in_err-grow-clause-err c =
     let i = c.self.inside in
     let kept = unchanged i.format i.width i.count i.stored.0 i.bytes.items i.starts.items c.grow.new.bytes.items c.grow.new.starts.items c.self.invariant.1 c.self.invariant.0 c.in_err-grow.ensures.bytes_kept c.in_err-grow.ensures.starts_kept in
-    rw (← c.self.view_is) (on_err c.from_residual.result (ap (encoding i.format i.width) (stored_is i.format i.width c.grow.new.bytes.items c.in_err-grow.self-1-own.given.0 i.stored.0 kept.indexed.encoded)))
+    rw (← c.self.view_is) (on_err c.from_residual.result (ap (encoding i.format i.width (reserve i.reserved_bytes i.reserved_count)) (stored_is i.format i.width c.grow.new.bytes.items c.in_err-grow.self-1-own.given.0 i.stored.0 kept.indexed.encoded)))
 
 pub invariant_of-self-inside-2 : goal.invariant_of-self-inside-2
 invariant_of-self-inside-2 c =
@@ -36,11 +40,23 @@ invariant_of-self-2 c =
     let i = c.self.inside in
     let change = pushed i.format i.width (i.count + 1024) i.stored.0 i.bytes.items i.starts.items c.args.full.now c.grow.new.bytes.items c.grow.new.starts.items c.self.invariant.1 (ap (λ n. n + 1024) c.self.invariant.0)
     (rw (← c.self.view_is) at c.requires.whole) (rw (← c.self.view_is) at c.requires.few) c.in_ok-grow.ensures.bytes c.in_ok-grow.ensures.starts in
-    change_is i.format i.width (i.count + 1024) c.grow.new.bytes.items c.grow.new.starts.items (i.stored.0 ++ c.args.full.now) c.self-2-1.given.0 change
+    let both = change_is i.format i.width (i.count + 1024) c.grow.new.bytes.items c.grow.new.starts.items (i.stored.0 ++ c.args.full.now) c.self-2-1.given.0 change in
+    (both.0, both.1, omega (arith, c.self.invariant.2, c.in_ok-grow.ensures.bytes_capacity), omega (arith, c.self.invariant.3, c.in_ok-grow.ensures.starts_capacity))
 
 pub returns-clause-ok : goal.returns-clause-ok
 returns-clause-ok c =
     let i = c.self.inside in
     let change = pushed i.format i.width (i.count + 1024) i.stored.0 i.bytes.items i.starts.items c.args.full.now c.grow.new.bytes.items c.grow.new.starts.items c.self.invariant.1 (ap (λ n. n + 1024) c.self.invariant.0)
     (rw (← c.self.view_is) at c.requires.whole) (rw (← c.self.view_is) at c.requires.few) c.in_ok-grow.ensures.bytes c.in_ok-grow.ensures.starts in
-    rw (← c.self.view_is) (ap (encoding i.format i.width) (stored_is i.format i.width c.grow.new.bytes.items c.self-2-1.given.0 (i.stored.0 ++ c.args.full.now) change.indexed.encoded))
+    rw (← c.self.view_is) (ap (encoding i.format i.width (reserve i.reserved_bytes i.reserved_count)) (stored_is i.format i.width c.grow.new.bytes.items c.self-2-1.given.0 (i.stored.0 ++ c.args.full.now) change.indexed.encoded))
+
+pub returns-in_err-grow-clause-sure : goal.returns-in_err-grow-clause-sure
+returns-in_err-grow-clause-sure c =
+    let i = c.self.inside in
+    let all = i.stored.0 ++ c.args.full.now in
+    let spelled = BlockOf-spelling (format_of i.format) i.width c.args.full.now (rw (← c.self.view_is) at c.requires.lawful) c.requires.full (rw (← c.self.view_is) at c.requires.fits) in
+    rw (← c.self.view_is) (λ (fits : front_size (format_of i.format) i.width all ≤ i.reserved_bytes) (few : length all ≤ i.reserved_count).
+    let room : RoomForBlock (length i.bytes.items) (length spelled.0) i.bytes.cap (length i.starts.items) i.starts.cap =
+    room_for_block (format_of i.format) i.width i.stored.0 i.bytes.items i.starts.items c.args.full.now spelled.0 i.reserved_bytes i.reserved_count i.bytes.cap i.starts.cap
+    c.self.invariant.1 (rw (← c.self.view_is) at c.requires.whole) spelled.1 fits few c.self.invariant.2 c.self.invariant.3 in
+    absurd (false≢true (c.in_err-grow.ensures.sure spelled.0 spelled.1 (omega (arith, room.bytes, i.bytes.ok.0)) (omega (arith, room.starts, i.starts.ok.0)))))
