@@ -1,7 +1,7 @@
 -- The first values of a list that is appended to another.
 use Rattle.std.proofs.Common.{◌≡◌, ℕ, ◌+◌, ◌<◌, ◌≤◌, min, Bool, true, List, [], ◌∷◌, ◌++◌, length, take, drop, get_or, sym, ap, ◌∙◌, subst, append_assoc, refl, ap₂, arith, length-append}
 use Rattle.std.proofs.lemmas.List.{take_more, take-append-le, take-append-drop, take-take, drop-take, take_at, length-take}
-use Rattle.block_core.specs.Laws.{HoldsOfPrefixes}
+use Rattle.block_core.specs.Emitters.{HoldsOfPrefixes}
 
 -- the first values and the next one
 next_of : (n : ℕ) (list values : List ℕ) → n < length values → (list ++ take n values) ++ get_or values n 0 ∷ [] ≡ list ++ take (n + 1) values

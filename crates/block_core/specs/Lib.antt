@@ -1,2 +1,3 @@
 pub mod Formats
-pub mod Laws
+pub mod Counts
+pub mod Emitters

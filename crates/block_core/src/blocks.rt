@@ -4,7 +4,7 @@ ghost use Rattle.std.specs.Prelude.{◌≡◌, ◌+◌, ◌<◌, ◌≤◌, ◌+
 ghost use Rattle.std.specs.List.{refill};
 ghost use Rattle.std.specs.Borrow.{Lends, sem, u64 as word, Array};
 ghost use Rattle.block_core.specs.contracts.blocks.Block.{the_row};
-ghost use Rattle.definitions.specs.Blocks.{block_len};
+ghost use Rattle.definitions_blocks.specs.Blocks.{block_len};
 
 use arrayvec::ArrayVec;
 use std::marker::Model;

@@ -1,7 +1,7 @@
 //! A count of steps, for contracts.
 
 ghost use Rattle.std.specs.Prelude.{◌≡◌, ◌≤◌};
-ghost use Rattle.definitions.specs.Steps.{next_count};
+ghost use Rattle.block_core.specs.Counts.{next_count};
 
 use std::alloc::Global;
 use std::marker::{Model, PhantomData};

@@ -1,8 +1,8 @@
 //! What operators write to.
 
 ghost use Rattle.std.specs.Prelude.{◌≡◌, ℕ, ◌+◌, ◌<◌, ◌≤◌, Bool, true, List, [], ◌∷◌, ◌++◌, length, take, IsOk, OnOk, OnErr};
-ghost use Rattle.definitions.specs.Columns.{max_rows};
-ghost use Rattle.block_core.specs.Laws.{HoldsOfPrefixes};
+ghost use Rattle.definitions_blocks.specs.Columns.{max_rows};
+ghost use Rattle.block_core.specs.Emitters.{HoldsOfPrefixes};
 
 use std::alloc::AllocError;
 

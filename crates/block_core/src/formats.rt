@@ -3,7 +3,7 @@
 ghost use Rattle.std.specs.Prelude.{◌≡◌, ◌≢◌, MatchOption};
 ghost use Rattle.block_core.specs.Formats.{tag_of, name_of};
 
-/// How the blocks of a column are spelled, in the order of the tags in column files.
+/// How the blocks of a column are encoded, in the order of the tags in column files.
 #[derive(Clone, Copy, Debug, PartialEq, Eq, PartialOrd, Ord, Hash)]
 pub enum Format {
     /// 1,024 words.

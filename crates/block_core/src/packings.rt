@@ -1,12 +1,12 @@
 //! Packings and transforms of full blocks.
 
 ghost use Rattle.std.specs.Prelude.{◌≡◌, ℕ, ◌^◌, ◌<◌, ◌↔◌, List, length, MatchOption, IsTrue};
-ghost use Rattle.definitions.specs.Blocks.{block_len};
-ghost use Rattle.block_core.specs.Laws.{IsPacking, NoBlock, BlockAt, IsBlock, IsTransform, IsSplit};
+ghost use Rattle.definitions_blocks.specs.Blocks.{block_len};
+ghost use Rattle.definitions_blocks.specs.Packings.{IsPacking, NoBlock, BlockAt, IsBlock, IsTransform, IsSplit};
 
 use crate::Block;
 
-/// One way to spell a full block in bytes, under a parameter that the column gives and with a head that the block gives. The
+/// One way to encode a full block in bytes, under a parameter that the column gives and with a head that the block gives. The
 /// lane width is a parameter of the implementing type.
 pub trait Packing {
     /// What the column says of all its blocks, as a width.
@@ -15,8 +15,8 @@ pub trait Packing {
     /// What is known of a block without opening it.
     type Head: Copy;
 
-    /// The block's spelling under the param.
-    ghost spells: { Self.Param → List ℕ → List ℕ → Type 0 };
+    /// The block's encoding under the param.
+    ghost encodes: { Self.Param → List ℕ → List ℕ → Type 0 };
 
     /// The block's head.
     ghost block_head: { Self.Param → List ℕ → Self.Head };
@@ -25,31 +25,31 @@ pub trait Packing {
         requires { length full.now ≡ block_len }
         ensures { result ≡ block_head param full.now };
 
-    /// How long the spelling of a block of this head is.
+    /// How long the encoding of a block of this head is.
     fn byte_len(param: Self::Param, head: Self::Head) -> usize
-        requires { (bytes : List ℕ) × (length bytes < 2 ^ 64) × IsBlock spells block_head param head bytes }
-        ensures { (bytes : List ℕ) → IsBlock spells block_head param head bytes → result ≡ length bytes };
+        requires { (bytes : List ℕ) × (length bytes < 2 ^ 64) × IsBlock encodes block_head param head bytes }
+        ensures { (bytes : List ℕ) → IsBlock encodes block_head param head bytes → result ≡ length bytes };
 
-    /// Writes the block's spelling.
+    /// Writes the block's encoding.
     fn encode(param: Self::Param, head: Self::Head, full: &Block, into: &mut [u8])
-        requires spelled { (bytes : List ℕ) × spells param full.now bytes × (length into.old ≡ length bytes) }
+        requires encoded { (bytes : List ℕ) × encodes param full.now bytes × (length into.old ≡ length bytes) }
         requires headed { head ≡ block_head param full.now }
-        ensures { spells param full.now into.new };
+        ensures { encodes param full.now into.new };
 
     /// The head and the length of the block that the bytes begin with, where they begin with one.
     fn check(param: Self::Param, bytes: &[u8]) -> Option<(Self::Head, usize)>
-        ensures { MatchOption result (NoBlock spells param bytes.now)
-            (λ found. BlockAt spells block_head param bytes.now found.0 found.1) };
+        ensures { MatchOption result (NoBlock encodes param bytes.now)
+            (λ found. BlockAt encodes block_head param bytes.now found.0 found.1) };
 
-    /// Leaves in `into` the block that the bytes spell.
+    /// Leaves in `into` the block that the bytes encode.
     fn decode(param: Self::Param, head: Self::Head, bytes: &[u8], into: &mut Block)
-        requires { IsBlock spells block_head param head bytes.now }
-        ensures { spells param into.new bytes.now };
+        requires { IsBlock encodes block_head param head bytes.now }
+        ensures { encodes param into.new bytes.now };
 
-    ghost laws: { IsPacking spells block_head };
+    ghost laws: { IsPacking encodes block_head };
 }
 
-/// A block as a base and differences, which are a full block too and often a smaller one to spell.
+/// A block as a base and differences, which are a full block too and often a smaller one to encode.
 pub trait Transform {
     type Base: Copy;
 
@@ -81,5 +81,5 @@ pub struct BlockRef<'a, P: Packing> {
     pub param: P::Param,
     pub head: P::Head,
     pub bytes: &'a [u8],
-    ghost checked: { ∥ IsBlock P.spells P.block_head param head bytes.now ∥₁ },
+    ghost checked: { ∥ IsBlock P.encodes P.block_head param head bytes.now ∥₁ },
 }

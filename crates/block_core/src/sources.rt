@@ -1,9 +1,9 @@
 //! Sources of lists: by blocks, and by places.
 
 ghost use Rattle.std.specs.Prelude.{◌≡◌, ℕ, ◌*◌, ◌<◌, ◌≤◌, List, length, slice_index};
-ghost use Rattle.definitions.specs.Columns.{max_rows};
-ghost use Rattle.definitions.specs.Blocks.{block_len, block_at};
-ghost use Rattle.definitions.specs.Steps.{next_count};
+ghost use Rattle.definitions_blocks.specs.Columns.{max_rows};
+ghost use Rattle.definitions_blocks.specs.Blocks.{block_len, block_at};
+ghost use Rattle.block_core.specs.Counts.{next_count};
 
 use crate::{Block, Steps};
 

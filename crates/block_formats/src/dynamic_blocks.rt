@@ -1,7 +1,7 @@
 //! The format `dynamic`: packed at the block's own width, which stands before it.
 
-ghost use Rattle.definitions.specs.Spellings.{IsDynamicBlock, width_of};
-ghost use Rattle.definitions.proofs.SpellingLaws.{IsDynamicBlock-octet, IsDynamicBlock-one, IsDynamicBlock-front, IsDynamicBlock-sized};
+ghost use Rattle.definitions_blocks.specs.Encodings.{IsDynamicBlock, width_of};
+ghost use Rattle.definitions_blocks.proofs.EncodingLaws.{IsDynamicBlock-octet, IsDynamicBlock-one, IsDynamicBlock-front, IsDynamicBlock-sized};
 
 use crate::widths::{MAX_WIDTH, is_least, packed_len};
 use block_core::{Block, Packing};
@@ -15,7 +15,7 @@ impl<const L: usize> Packing for Dynamic<L> {
 
     type Head = u8;
 
-    ghost spells = { λ _ values bytes. IsDynamicBlock values bytes };
+    ghost encodes = { λ _ values bytes. IsDynamicBlock values bytes };
 
     ghost block_head = { λ _ values. width_of values };
 

@@ -1,4 +1,4 @@
-//! The three formats that spell a block's values as they are: as words, packed at the column's width, and packed at the
+//! The three formats that encode a block's values as they are: as words, packed at the column's width, and packed at the
 //! block's own width.
 //!
 //! Each is a packing, with the laws of `block_core::Packing`. None takes memory.

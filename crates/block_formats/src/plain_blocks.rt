@@ -1,7 +1,7 @@
 //! The format `plain`: 1,024 words of 8 bytes, the little end first.
 
-ghost use Rattle.definitions.specs.Spellings.{IsPlainBlock};
-ghost use Rattle.definitions.proofs.SpellingLaws.{IsPlainBlock-octet, IsPlainBlock-one, IsPlainBlock-front, IsPlainBlock-sized};
+ghost use Rattle.definitions_blocks.specs.Encodings.{IsPlainBlock};
+ghost use Rattle.definitions_blocks.proofs.EncodingLaws.{IsPlainBlock-octet, IsPlainBlock-one, IsPlainBlock-front, IsPlainBlock-sized};
 
 use crate::words::{read_words, write_words};
 use block_core::{Block, Packing};
@@ -17,7 +17,7 @@ impl Packing for Words {
 
     type Head = ();
 
-    ghost spells = { λ _ values bytes. IsPlainBlock values bytes };
+    ghost encodes = { λ _ values bytes. IsPlainBlock values bytes };
 
     ghost block_head = { λ _ _. tt };
 

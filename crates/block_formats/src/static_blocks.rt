@@ -1,14 +1,14 @@
 //! The format `static`: packed at one width for the whole column.
 
-ghost use Rattle.definitions.specs.Packed.{IsPacked};
-ghost use Rattle.definitions.proofs.PackedLaws.{packed_one_spelling, packed_prefix};
-ghost use Rattle.definitions.proofs.SpellingLaws.{IsPacked-full, IsPacked-sized};
+ghost use Rattle.definitions_blocks.specs.Packed.{IsPacked};
+ghost use Rattle.definitions_blocks.proofs.PackedLaws.{packed_one_encoding, packed_prefix};
+ghost use Rattle.definitions_blocks.proofs.EncodingLaws.{IsPacked-full, IsPacked-sized};
 
 use crate::widths::{MAX_WIDTH, packed_len};
 use block_core::{Block, Packing};
 
 /// A block packed at the column's width, in `128 * width` bytes. The param is the width; a block with a value of 2^width or
-/// more has no spelling under it, and no block has one under a width above 64.
+/// more has no encoding under it, and no block has one under a width above 64.
 pub struct Static<const L: usize>;
 
 impl<const L: usize> Packing for Static<L> {
@@ -16,7 +16,7 @@ impl<const L: usize> Packing for Static<L> {
 
     type Head = ();
 
-    ghost spells = { λ width values bytes. IsPacked width values bytes };
+    ghost encodes = { λ width values bytes. IsPacked width values bytes };
 
     ghost block_head = { λ _ _. tt };
 
@@ -44,7 +44,7 @@ impl<const L: usize> Packing for Static<L> {
     ghost laws = { record {
       full = IsPacked-full;
       octets = λ width values bytes p. p.octets;
-      one = packed_one_spelling;
+      one = packed_one_encoding;
       front = packed_prefix;
       sized = λ width values others a b p q _. IsPacked-sized width values others a b p q;
     } };

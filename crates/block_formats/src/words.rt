@@ -2,7 +2,7 @@
 
 ghost use Rattle.std.specs.Prelude.{◌≡◌, ℕ, ◌+◌, ◌*◌, ◌<◌, ◌≤◌, length, slice_index};
 ghost use Rattle.std.specs.List.{AllByRecursion};
-ghost use Rattle.definitions.specs.Columns.{IsWord, words_of};
+ghost use Rattle.definitions_blocks.specs.Words.{IsWord, words_of};
 ghost use Rattle.strand_pack.specs.Words.{word_of};
 
 /// Writes the values as words.
@@ -19,7 +19,7 @@ pub fn write_words(values: &[u64], into: &mut [u8])
 /// Reads the values whose words these bytes are.
 pub fn read_words(bytes: &[u8], into: &mut [u64])
     requires { length bytes.now ≡ 8 * length into.old }
-    ensures spelled { bytes.now ≡ words_of into.new }
+    ensures encoded { bytes.now ≡ words_of into.new }
     ensures words { AllByRecursion IsWord into.new }
     ensures kept { length into.new ≡ length into.old }
 {

@@ -2,10 +2,10 @@
 use Rattle.std.proofs.Common.{◌≡◌, ℕ, ◌+◌, ◌-◌, [], ◌∷◌, ◌^◌, ◌<◌, ◌≤◌, List, length, map, replicate, get_or, refl, sym, ap, ◌∙◌, subst, arith}
 use Rattle.std.specs.List.{refill}
 use Rattle.std.proofs.lemmas.List.{take_at, length-map}
-use Rattle.definitions.specs.Blocks.{IsFull, block_len}
-use Rattle.definitions.specs.Differences.{first_of, delta1_of, delta16_of, least_of, reference_of}
-use Rattle.definitions.proofs.DifferenceLaws.{sums_of, summed, delta1_of-gapped, delta1_of-full, delta1_of-first, delta16_of-full, gapped_first, raised, raised_is, reference_of-full, reference_of-zero, reference_of-small, least_of-at, least_of-le, full_from, gapped, length-gapped, sums_of-gapped, raised-reference_of}
-use Rattle.block_core.specs.Laws.{IsSplit}
+use Rattle.definitions_blocks.specs.Blocks.{IsFull, block_len}
+use Rattle.definitions_blocks.specs.Differences.{first_of, delta1_of, delta16_of, least_of, reference_of}
+use Rattle.definitions_blocks.proofs.DifferenceLaws.{sums_of, summed, delta1_of-gapped, delta1_of-full, delta1_of-first, delta16_of-full, gapped_first, raised, raised_is, reference_of-full, reference_of-zero, reference_of-small, least_of-at, least_of-le, full_from, gapped, length-gapped, sums_of-gapped, raised-reference_of}
+use Rattle.definitions_blocks.specs.Packings.{IsSplit}
 
 pub delta1_split : (base : ℕ) (ds : List ℕ) → base < 2 ^ 64 → IsFull ds → get_or ds 0 0 ≡ 0 → (values : List ℕ) × IsSplit first_of delta1_of base values ds
 delta1_split base ds word is zero =

@@ -2,14 +2,14 @@
 use Rattle.std.proofs.Common.{◌≡◌, ℕ, ◌+◌, ◌-◌, ◌≤◌, List, [], ◌++◌, take, drop, length, sym, ap, ap₂, ◌∙◌, arith, length-append}
 use borrow.Rule.Slice.PartMut.{post_of}
 use Rattle.std.proofs.lemmas.List.{take_at, drop_all, append-nil, length-drop}
-use Rattle.definitions.specs.Columns.{word_bytes}
-use Rattle.definitions.specs.Spellings.{IsCascade}
-use Rattle.definitions.proofs.WordLaws.{length-word_bytes}
+use Rattle.definitions_blocks.specs.Words.{word_bytes}
+use Rattle.definitions_blocks.specs.Encodings.{IsCascade}
+use Rattle.definitions_blocks.proofs.WordLaws.{length-word_bytes}
 
--- the spelling of a cascade has a word
-pub cascade_long : (base_of : List ℕ → ℕ) (differences_of : List ℕ → List ℕ) (spells : List ℕ → List ℕ → Type 0) (values bytes into : List ℕ) → IsCascade base_of differences_of spells values bytes → length into ≡ length bytes → 8 ≤ length into
-cascade_long base_of differences_of spells values bytes into is same =
-    omega (arith, ap length is.spelled, length-append (word_bytes (base_of values)) is.inner, length-word_bytes (base_of values))
+-- the encoding of a cascade has a word
+pub cascade_long : (base_of : List ℕ → ℕ) (differences_of : List ℕ → List ℕ) (encodes : List ℕ → List ℕ → Type 0) (values bytes into : List ℕ) → IsCascade base_of differences_of encodes values bytes → length into ≡ length bytes → 8 ≤ length into
+cascade_long base_of differences_of encodes values bytes into is same =
+    omega (arith, ap length is.encoded, length-append (word_bytes (base_of values)) is.inner, length-word_bytes (base_of values))
 
 -- a word, and the rest written after it
 pub written_after : (whole word inner rest : List ℕ) → length word ≡ 8 → whole ≡ word ++ rest → take 8 whole ++ (inner ++ post_of 8 (length whole - 8) whole) ≡ word ++ inner

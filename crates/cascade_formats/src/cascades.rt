@@ -1,15 +1,15 @@
 //! Cascades of a transform and a packing.
 
 ghost use Rattle.std.specs.Prelude.{◌≡◌, ◌≤◌, ◌++◌, length, take, drop};
-ghost use Rattle.definitions.specs.Columns.{word_bytes};
-ghost use Rattle.definitions.specs.Spellings.{IsCascade};
+ghost use Rattle.definitions_blocks.specs.Words.{word_bytes};
+ghost use Rattle.definitions_blocks.specs.Encodings.{IsCascade};
 ghost use Rattle.cascade_formats.specs.CascadeLaws.{IsPacking-cascade};
 
 use crate::differences::words_fit;
 use block_core::{Block, Packing, Transform};
 use std::marker::PhantomData;
 
-/// A block as the base of `T` in eight bytes, the little end first, and then its differences as `P` spells them. The param is
+/// A block as the base of `T` in eight bytes, the little end first, and then its differences as `P` encodes them. The param is
 /// that of `P`, the head the base and the head of `P`.
 pub struct Cascade<T, P> {
     transform: PhantomData<T>,
@@ -21,7 +21,7 @@ impl<T: Transform<Base = u64>, P: Packing> Packing for Cascade<T, P> {
 
     type Head = (u64, P::Head);
 
-    ghost spells = { λ param values bytes. IsCascade T.base_of T.differences_of (P.spells param) values bytes };
+    ghost encodes = { λ param values bytes. IsCascade T.base_of T.differences_of (P.encodes param) values bytes };
 
     ghost block_head = { λ param values. (T.base_of values, P.block_head param (T.differences_of values)) };
 
@@ -68,7 +68,7 @@ impl<T: Transform<Base = u64>, P: Packing> Packing for Cascade<T, P> {
         T::join(head.0, into);
     }
 
-    ghost laws = { IsPacking-cascade T.base_of T.differences_of P.spells P.block_head T.laws P.laws };
+    ghost laws = { IsPacking-cascade T.base_of T.differences_of P.encodes P.block_head T.laws P.laws };
 }
 
 // The number that the bytes begin with.

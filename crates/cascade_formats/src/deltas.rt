@@ -1,7 +1,7 @@
 //! Differences to an earlier value of the block.
 
-ghost use Rattle.definitions.specs.Differences.{first_of, delta1_of, delta16_of};
-ghost use Rattle.definitions.proofs.DifferenceLaws.{delta1_of-full, delta1_of-join, delta16_of-full, delta16_of-join};
+ghost use Rattle.definitions_blocks.specs.Differences.{first_of, delta1_of, delta16_of};
+ghost use Rattle.definitions_blocks.proofs.DifferenceLaws.{delta1_of-full, delta1_of-join, delta16_of-full, delta16_of-join};
 
 use crate::differences::{begin_at_zero, subtract_earlier, sum_strands, sum_up, words_fit};
 use block_core::{Block, Transform};

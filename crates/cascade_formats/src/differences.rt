@@ -1,9 +1,9 @@
 //! Differences to a value some places earlier, and the sums that undo them.
 
 ghost use Rattle.std.specs.Prelude.{◌≡◌, ℕ, ◌+◌, ◌*◌, ◌/◌, ◌%◌, ◌^◌, ◌<◌, ◌≤◌, ◌↔◌, ◌∷◌, [], IsTrue, length, replicate, slice_index};
-ghost use Rattle.definitions.specs.Blocks.{block_len, IsFull};
-ghost use Rattle.definitions.specs.Differences.{first_of};
-ghost use Rattle.definitions.proofs.DifferenceLaws.{gapped, sums_of};
+ghost use Rattle.definitions_blocks.specs.Blocks.{block_len, IsFull};
+ghost use Rattle.definitions_blocks.specs.Differences.{first_of};
+ghost use Rattle.definitions_blocks.proofs.DifferenceLaws.{gapped, sums_of};
 
 use block_core::BLOCK_LEN;
 use lane_core::Lanes;

@@ -1,9 +1,9 @@
 //! Differences to the least value of the block, a frame of reference.
 
 ghost use Rattle.std.specs.Prelude.{◌≡◌, ℕ, ◌+◌, ◌^◌, ◌<◌, ◌≤◌, ◌↔◌, IsTrue, length, slice_index};
-ghost use Rattle.definitions.specs.Blocks.{block_len};
-ghost use Rattle.definitions.specs.Differences.{least_of, reference_of};
-ghost use Rattle.definitions.proofs.DifferenceLaws.{raised, reference_of-full, reference_of-join};
+ghost use Rattle.definitions_blocks.specs.Blocks.{block_len};
+ghost use Rattle.definitions_blocks.specs.Differences.{least_of, reference_of};
+ghost use Rattle.definitions_blocks.proofs.DifferenceLaws.{raised, reference_of-full, reference_of-join};
 
 use crate::differences::words_fit;
 use block_core::{BLOCK_LEN, Block, Transform};

@@ -1,17 +1,17 @@
--- What a block's spelling begins with, and how long it is.
+-- What a block's encoding begins with, and how long it is.
 use Rattle.std.proofs.Common.{◌≡◌, ℕ, zero, suc, ◌+◌, ◌-◌, ◌*◌, ◌%◌, ◌^◌, ◌<◌, List, length, take, drop, get_or, sym, ap, ◌∙◌, arith, length-append}
 use Rattle.std.specs.Int.{from_le_bytes, w64}
 use Rattle.std.proofs.lemmas.List.{drop_at, get_or-append_right}
-use Rattle.definitions.specs.Columns.{word_bytes}
-use Rattle.definitions.specs.Blocks.{block_len, IsFull}
-use Rattle.definitions.specs.Differences.{delta16_of, first_of, least_of, reference_of}
-use Rattle.definitions.specs.Spellings.{IsCascade}
-use Rattle.definitions.specs.ColumnFiles.{Format, BlockOf}
-use Rattle.definitions.proofs.WordLaws.{length-word_bytes}
-use Rattle.definitions.proofs.BlockLaws.{BlockOf-short, IsCascade-base}
-use Rattle.definitions.proofs.DifferenceLaws.{delta16_of-early, delta16_of-late, first_of-word, least_of-le, reference_of-at, words_at}
+use Rattle.definitions_blocks.specs.Words.{word_bytes}
+use Rattle.definitions_blocks.specs.Blocks.{block_len, IsFull}
+use Rattle.definitions_blocks.specs.Differences.{delta16_of, first_of, least_of, reference_of}
+use Rattle.definitions_blocks.specs.Encodings.{IsCascade}
+use Rattle.definitions_blocks.specs.Formats.{Format, BlockOf}
+use Rattle.definitions_blocks.proofs.WordLaws.{length-word_bytes}
+use Rattle.definitions_blocks.proofs.BlockLaws.{BlockOf-short, IsCascade-base}
+use Rattle.definitions_blocks.proofs.DifferenceLaws.{delta16_of-early, delta16_of-late, first_of-word, least_of-le, reference_of-at, words_at}
 
--- a spelling is short
+-- a encoding is short
 pub sized : (format : Format) (width : ℕ) (values : List ℕ) → (bytes : List ℕ) × BlockOf format width values bytes → (bytes : List ℕ) × (length bytes < 2 ^ 32) × BlockOf format width values bytes
 sized format width values s = (s.0, omega (arith, BlockOf-short format width values s.0 s.1), s.1)
 
@@ -22,16 +22,16 @@ pub record Inside (base_of : List ℕ → ℕ) (differences_of : List ℕ → Li
   pub size : length bytes ≡ 8 + length inner
   pub cell : (i : ℕ) → get_or bytes (8 + i) 0 ≡ get_or inner i 0
 
-pub inside : (base_of : List ℕ → ℕ) (differences_of : List ℕ → List ℕ) (spells : List ℕ → List ℕ → Type 0) (values bytes : List ℕ)
-    → (is : IsCascade base_of differences_of spells values bytes) → Inside base_of differences_of values bytes is.inner
-inside base_of differences_of spells values bytes is =
+pub inside : (base_of : List ℕ → ℕ) (differences_of : List ℕ → List ℕ) (encodes : List ℕ → List ℕ → Type 0) (values bytes : List ℕ)
+    → (is : IsCascade base_of differences_of encodes values bytes) → Inside base_of differences_of values bytes is.inner
+inside base_of differences_of encodes values bytes is =
     let word = word_bytes (base_of values) in
     let long : length word ≡ 8 = length-word_bytes (base_of values) in
     record {
-      base = IsCascade-base base_of differences_of spells values bytes is;
-      rest = ap (drop 8) is.spelled ∙ drop_at word is.inner 8 long;
-      size = omega (arith, ap length is.spelled, length-append word is.inner, long);
-      cell = λ i. ap (λ l. get_or l (8 + i) 0) is.spelled ∙ get_or-append_right word is.inner 8 (8 + i) 0 long (omega arith) ∙ (let e : 8 + i - 8 ≡ i = omega arith in ap (λ n. get_or is.inner n 0) e);
+      base = IsCascade-base base_of differences_of encodes values bytes is;
+      rest = ap (drop 8) is.encoded ∙ drop_at word is.inner 8 long;
+      size = omega (arith, ap length is.encoded, length-append word is.inner, long);
+      cell = λ i. ap (λ l. get_or l (8 + i) 0) is.encoded ∙ get_or-append_right word is.inner 8 (8 + i) 0 long (omega arith) ∙ (let e : 8 + i - 8 ≡ i = omega arith in ap (λ n. get_or is.inner n 0) e);
     }
 
 -- a value is the least one and its difference to it

@@ -1,12 +1,13 @@
 -- The blocks of a list, as they are encoded one after the other.
 use Rattle.std.proofs.Common.{◌≡◌, ℕ, ◌+◌, ◌*◌, ◌/◌, ◌^◌, ◌<◌, ◌≤◌, List, length, take, drop, get_or, refl, sym, ap, ◌∙◌, subst, arith}
 use Rattle.std.proofs.lemmas.List.{take-take, length-take, get_or-take, get_or-drop}
-use Rattle.definitions.specs.Blocks.{block_len}
-use Rattle.definitions.specs.Packed.{AreBelow, IsWidth}
-use Rattle.definitions.specs.Spellings.{width_of}
-use Rattle.definitions.specs.ColumnFiles as columns
-use Rattle.definitions.specs.ColumnFiles.{FitsFormat, whole_blocks, static_width_of}
-use Rattle.definitions.proofs.SpellingLaws.{IsWidth-width_of}
+use Rattle.definitions_blocks.specs.Blocks.{block_len}
+use Rattle.definitions_blocks.specs.Packed.{AreBelow, IsWidth}
+use Rattle.definitions_blocks.specs.Encodings.{width_of}
+use Rattle.definitions_blocks.specs.Formats as columns
+use Rattle.definitions_blocks.specs.Formats.{FitsFormat}
+use Rattle.definitions_columns.specs.ColumnFiles.{whole_blocks, static_width_of}
+use Rattle.definitions_blocks.proofs.EncodingLaws.{IsWidth-width_of}
 
 -- how many values the whole blocks have
 abbrev pub whole_count : List ℕ → ℕ

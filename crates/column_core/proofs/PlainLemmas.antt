@@ -2,14 +2,15 @@
 use Rattle.std.proofs.Common.{◌≡◌, ℕ, List, [], ◌∷◌, ◌++◌, length, take, drop, flat_map, refl, sym, ap, ap₂, ◌∙◌}
 use Rattle.std.proofs.lemmas.Grind.{flat_map-append}
 use Rattle.std.proofs.lemmas.List.{drop_at}
-use Rattle.definitions.specs.Columns.{column_head, word_bytes, words_of}
-use Rattle.definitions.specs.ColumnFiles.{plain, tag_of, Piece, ArePieces, piece_values, piece_bytes, IsEncoded}
-use Rattle.definitions.proofs.ColumnFileLaws.{length-column_head}
+use Rattle.definitions_columns.specs.ColumnFiles.{column_head, Piece, ArePieces, piece_values, piece_bytes, IsEncoded}
+use Rattle.definitions_blocks.specs.Words.{word_bytes, words_of}
+use Rattle.definitions_blocks.specs.Formats.{plain, tag_of}
+use Rattle.definitions_columns.proofs.ColumnFileLaws.{length-column_head}
 
 plain_pieces : (width : ℕ) (pieces : List Piece) → ArePieces plain width pieces → piece_bytes pieces ≡ words_of (piece_values pieces)
 plain_pieces width [] are = refl
 plain_pieces width (piece ∷ pieces) are =
-    ap₂ (λ (a : List ℕ) (b : List ℕ). a ++ b) are.0.spelled (plain_pieces width pieces are.1) ∙ sym (flat_map-append word_bytes piece.values (piece_values pieces))
+    ap₂ (λ (a : List ℕ) (b : List ℕ). a ++ b) are.0.encoded (plain_pieces width pieces are.1) ∙ sym (flat_map-append word_bytes piece.values (piece_values pieces))
 
 pub plain_words : (width : ℕ) (values bytes : List ℕ) → IsEncoded plain width values bytes → drop 16 bytes ≡ words_of values
 plain_words width values bytes is =

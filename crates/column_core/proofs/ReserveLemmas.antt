@@ -1,28 +1,29 @@
 -- What is reserved is enough for what a file grows by.
 use Rattle.std.proofs.Common.{◌≡◌, ℕ, ◌+◌, ◌*◌, ◌/◌, ◌%◌, ◌<◌, ◌≤◌, List, ◌++◌, length, arith, length-append}
-use Rattle.definitions.specs.Blocks.{block_len}
-use Rattle.definitions.specs.ColumnFiles.{Format, BlockOf, IsIndexed}
-use Rattle.definitions.specs.Sizes.{block_size, front_size, file_size}
-use Rattle.definitions.proofs.SizeLaws.{BlockOf-size, IsEncoded-size, sum_blocks-push, sum_blocks-tail}
-use Rattle.definitions.proofs.BlockLaws.{BlockOf-full}
-use Rattle.definitions.proofs.PieceLaws.{counts}
+use Rattle.definitions_blocks.specs.Blocks.{block_len}
+use Rattle.definitions_blocks.specs.Formats.{Format, BlockOf}
+use Rattle.definitions_columns.specs.ColumnFiles.{IsIndexed}
+use Rattle.definitions_columns.specs.Sizes.{block_size, front_size, file_size}
+use Rattle.definitions_columns.proofs.SizeLaws.{BlockOf-size, IsEncoded-size, sum_blocks-push, sum_blocks-tail}
+use Rattle.definitions_blocks.proofs.BlockLaws.{BlockOf-full}
+use Rattle.definitions_columns.proofs.PieceLaws.{counts}
 
--- a spelling and one more start fit
-pub record RoomForBlock (size spelling capacity blocks starts_capacity : ℕ) : Type 0 where
-  pub bytes : size + spelling ≤ capacity
+-- a encoding and one more start fit
+pub record RoomForBlock (size encoding capacity blocks starts_capacity : ℕ) : Type 0 where
+  pub bytes : size + encoding ≤ capacity
   pub starts : blocks < starts_capacity
 
-pub room_for_block : (format : Format) (width : ℕ) (values bytes starts block spelling : List ℕ) (reserved count capacity starts_capacity : ℕ) → IsIndexed format width values bytes starts
-    → length values % block_len ≡ 0 → BlockOf format width block spelling → front_size format width (values ++ block) ≤ reserved → length (values ++ block) ≤ count
-    → reserved ≤ capacity → count / block_len ≤ starts_capacity → RoomForBlock (length bytes) (length spelling) capacity (length starts) starts_capacity
-room_for_block format width values bytes starts block spelling reserved count capacity starts_capacity is whole spelled fits few held held_starts =
-    let full = (BlockOf-full format width block spelling spelled).whole in
+pub room_for_block : (format : Format) (width : ℕ) (values bytes starts block encoding : List ℕ) (reserved count capacity starts_capacity : ℕ) → IsIndexed format width values bytes starts
+    → length values % block_len ≡ 0 → BlockOf format width block encoding → front_size format width (values ++ block) ≤ reserved → length (values ++ block) ≤ count
+    → reserved ≤ capacity → count / block_len ≤ starts_capacity → RoomForBlock (length bytes) (length encoding) capacity (length starts) starts_capacity
+room_for_block format width values bytes starts block encoding reserved count capacity starts_capacity is whole encoded fits few held held_starts =
+    let full = (BlockOf-full format width block encoding encoded).whole in
     let now = IsEncoded-size format width values bytes is.encoded in
     let more = sum_blocks-push (block_size format width) values block whole full in
     let long = length-append values block in
     let blocks = counts format width values bytes starts is in
     record {
-      bytes = omega (arith, BlockOf-size format width block spelling spelled);
+      bytes = omega (arith, BlockOf-size format width block encoding encoded);
       starts = omega (arith, blocks.whole, blocks.blocks);
     }
 

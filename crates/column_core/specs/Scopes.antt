@@ -1,14 +1,15 @@
 -- What a builder may be given, and what it keeps.
 use Rattle.std.proofs.Common.{◌≡◌, ℕ, ◌*◌, ◌/◌, ◌%◌, ◌^◌, ◌<◌, ◌≤◌, Bool, true, List, ◌++◌, length, take, refl, sym, ◌∙◌, subst, arith, length-append}
 use Rattle.std.proofs.lemmas.List.{take-take, take-append-le, length-take, get_or-take}
-use Rattle.definitions.specs.Blocks.{block_len}
-use Rattle.definitions.specs.Columns.{max_rows}
-use Rattle.definitions.specs.Packed.{AreBelow}
-use Rattle.definitions.specs.ColumnFiles as columns
-use Rattle.definitions.specs.ColumnFiles.{IsColumnWidth, whole_blocks, fits_columns}
-use Rattle.definitions.specs.Sizes.{is_within_room}
-use Rattle.definitions.proofs.SizeLaws.{is_within_room-front}
-use Rattle.definitions.proofs.SpellingLaws.{AreBelow-from_fits, fits_from_AreBelow}
+use Rattle.definitions_blocks.specs.Blocks.{block_len}
+use Rattle.definitions_blocks.specs.Columns.{max_rows}
+use Rattle.definitions_blocks.specs.Packed.{AreBelow}
+use Rattle.definitions_blocks.specs.Formats as columns
+use Rattle.definitions_blocks.specs.Formats.{IsColumnWidth}
+use Rattle.definitions_columns.specs.ColumnFiles.{whole_blocks, fits_columns}
+use Rattle.definitions_columns.specs.Sizes.{is_within_room}
+use Rattle.definitions_columns.proofs.SizeLaws.{is_within_room-front}
+use Rattle.definitions_blocks.proofs.EncodingLaws.{AreBelow-from_fits, fits_from_AreBelow}
 use Rattle.block_core.specs.declared.formats.Format.{Format}
 use Rattle.block_core.specs.Formats.{format_of}
 use Rattle.column_core.specs.Columns.{Reserve}

@@ -2,12 +2,12 @@
 
 ghost use Rattle.std.specs.Prelude.{◌≡◌, ◌+◌, ◌<◌, ◌≤◌, ◌++◌, ◌^◌, ℕ, List, length, take, slice_index, OnOk, OnErr, IsOk, IfSome, MatchOption, vec_len};
 ghost use Rattle.std.specs.Vec.{vec_capacity};
-ghost use Rattle.definitions.specs.Blocks.{block_len};
-ghost use Rattle.definitions.specs.ColumnFiles.{BlockOf, IsColumnWidth, LacksBlock, BeginsWith, BeginsWithBlock};
+ghost use Rattle.definitions_blocks.specs.Blocks.{block_len};
+ghost use Rattle.definitions_blocks.specs.Formats.{BlockOf, IsColumnWidth, LacksBlock, BeginsWith, BeginsWithBlock};
 ghost use Rattle.block_core.specs.Formats.{format_of};
-ghost use Rattle.block_core.specs.Laws.{NoBlock};
+ghost use Rattle.definitions_blocks.specs.Packings.{NoBlock};
 
-use crate::spellings::{
+use crate::block_heads::{
     decode_delta_dynamic, decode_delta_runs, decode_dynamic, decode_runs, pick_delta16,
     pick_dynamic, pick_reference,
 };
@@ -35,41 +35,41 @@ pub fn check_block(format: Format, static_width: u8, bytes: &[u8]) -> Option<usi
     }
 }
 
-/// How long the spelling of a block is.
+/// How long the encoding of a block is.
 pub fn block_len(format: Format, static_width: u8, full: &Block) -> usize
     requires { (bytes : List ℕ) × BlockOf (format_of format) static_width full.now bytes }
     ensures { (bytes : List ℕ) → BlockOf (format_of format) static_width full.now bytes → result ≡ length bytes }
 {
     match format {
-        Format::Plain => spelled_len::<Words>((), full),
-        Format::Static => spelled_len::<Static<8>>(static_width, full),
-        Format::Dynamic => spelled_len::<Dynamic<8>>((), full),
-        Format::Runs => spelled_len::<Runs>((), full),
-        Format::Delta1Dynamic => spelled_len::<Cascade<Delta1<8>, Dynamic<8>>>((), full),
-        Format::Delta16Dynamic => spelled_len::<Cascade<Delta16<8>, Dynamic<8>>>((), full),
-        Format::ReferenceDynamic => spelled_len::<Cascade<Reference<8>, Dynamic<8>>>((), full),
-        Format::Delta1Runs => spelled_len::<Cascade<Delta1<8>, Runs>>((), full),
+        Format::Plain => encoded_len::<Words>((), full),
+        Format::Static => encoded_len::<Static<8>>(static_width, full),
+        Format::Dynamic => encoded_len::<Dynamic<8>>((), full),
+        Format::Runs => encoded_len::<Runs>((), full),
+        Format::Delta1Dynamic => encoded_len::<Cascade<Delta1<8>, Dynamic<8>>>((), full),
+        Format::Delta16Dynamic => encoded_len::<Cascade<Delta16<8>, Dynamic<8>>>((), full),
+        Format::ReferenceDynamic => encoded_len::<Cascade<Reference<8>, Dynamic<8>>>((), full),
+        Format::Delta1Runs => encoded_len::<Cascade<Delta1<8>, Runs>>((), full),
     }
 }
 
-/// Writes the spelling of a block, which is as long as `into`.
+/// Writes the encoding of a block, which is as long as `into`.
 pub fn encode_block<const L: usize>(format: Format, static_width: u8, full: &Block, into: &mut [u8])
     requires { (bytes : List ℕ) × BlockOf (format_of format) static_width full.now bytes × (length into.old ≡ length bytes) }
     ensures { BlockOf (format_of format) static_width full.now into.new }
 {
     match format {
-        Format::Plain => spell::<Words>((), full, into),
-        Format::Static => spell::<Static<L>>(static_width, full, into),
-        Format::Dynamic => spell::<Dynamic<L>>((), full, into),
-        Format::Runs => spell::<Runs>((), full, into),
-        Format::Delta1Dynamic => spell::<Cascade<Delta1<L>, Dynamic<L>>>((), full, into),
-        Format::Delta16Dynamic => spell::<Cascade<Delta16<L>, Dynamic<L>>>((), full, into),
-        Format::ReferenceDynamic => spell::<Cascade<Reference<L>, Dynamic<L>>>((), full, into),
-        Format::Delta1Runs => spell::<Cascade<Delta1<L>, Runs>>((), full, into),
+        Format::Plain => encode::<Words>((), full, into),
+        Format::Static => encode::<Static<L>>(static_width, full, into),
+        Format::Dynamic => encode::<Dynamic<L>>((), full, into),
+        Format::Runs => encode::<Runs>((), full, into),
+        Format::Delta1Dynamic => encode::<Cascade<Delta1<L>, Dynamic<L>>>((), full, into),
+        Format::Delta16Dynamic => encode::<Cascade<Delta16<L>, Dynamic<L>>>((), full, into),
+        Format::ReferenceDynamic => encode::<Cascade<Reference<L>, Dynamic<L>>>((), full, into),
+        Format::Delta1Runs => encode::<Cascade<Delta1<L>, Runs>>((), full, into),
     }
 }
 
-/// Leaves in `into` the block that the bytes spell. Nothing is checked again.
+/// Leaves in `into` the block that the bytes encode. Nothing is checked again.
 pub fn decode_block<const L: usize>(
     format: Format,
     static_width: u8,
@@ -91,14 +91,14 @@ pub fn decode_block<const L: usize>(
     }
 }
 
-/// The value at a place of the block that the bytes spell, in the formats whose blocks give one value cheaper than all.
+/// The value at a place of the block that the bytes encode, in the formats whose blocks give one value cheaper than all.
 pub(crate) fn pick_value(
     format: Format,
     static_width: u8,
     bytes: &[u8],
     place: usize,
 ) -> Option<u64>
-    requires spelled { (values : List ℕ) × BlockOf (format_of format) static_width values bytes.now }
+    requires encoded { (values : List ℕ) × BlockOf (format_of format) static_width values bytes.now }
     requires within { place < block_len }
     ensures { (values : List ℕ) → BlockOf (format_of format) static_width values bytes.now →
         IfSome result (λ value. value ≡ slice_index values place) }
@@ -113,20 +113,20 @@ pub(crate) fn pick_value(
     }
 }
 
-/// Appends the spelling of a block. The block's head is found once, for its length and for its bytes.
+/// Appends the encoding of a block. The block's head is found once, for its length and for its bytes.
 pub(crate) fn append_block(
     format: Format,
     static_width: u8,
     full: &Block,
     bytes: &mut Vec<u8>,
 ) -> Result<(), AllocError>
-    requires { (spelling : List ℕ) × BlockOf (format_of format) static_width full.now spelling }
-    ensures ok { OnOk result ((spelling : List ℕ) × BlockOf (format_of format) static_width full.now spelling
-        × (bytes.new.items ≡ bytes.old.items ++ spelling)) }
+    requires { (encoding : List ℕ) × BlockOf (format_of format) static_width full.now encoding }
+    ensures ok { OnOk result ((encoding : List ℕ) × BlockOf (format_of format) static_width full.now encoding
+        × (bytes.new.items ≡ bytes.old.items ++ encoding)) }
     ensures err { OnErr result (bytes.new.items ≡ bytes.old.items) }
     ensures capacity { vec_capacity bytes.old ≤ vec_capacity bytes.new }
-    ensures sure { (spelling : List ℕ) → BlockOf (format_of format) static_width full.now spelling →
-        vec_len bytes.old + length spelling ≤ vec_capacity bytes.old → IsOk result }
+    ensures sure { (encoding : List ℕ) → BlockOf (format_of format) static_width full.now encoding →
+        vec_len bytes.old + length encoding ≤ vec_capacity bytes.old → IsOk result }
 {
     match format {
         Format::Plain => append::<Words>((), full, bytes),
@@ -142,7 +142,7 @@ pub(crate) fn append_block(
 
 /// The length of the block of a packing that the bytes begin with.
 fn found<P: Packing>(param: P::Param, bytes: &[u8]) -> Option<usize>
-    ensures { MatchOption result (NoBlock P.spells param bytes.now) (λ count. BeginsWith (P.spells param) bytes.now count) }
+    ensures { MatchOption result (NoBlock P.encodes param bytes.now) (λ count. BeginsWith (P.encodes param) bytes.now count) }
 {
     match P::check(param, bytes) {
         Some((_, count)) => Some(count),
@@ -150,27 +150,27 @@ fn found<P: Packing>(param: P::Param, bytes: &[u8]) -> Option<usize>
     }
 }
 
-fn spelled_len<P: Packing>(param: P::Param, full: &Block) -> usize
-    requires { (bytes : List ℕ) × (length bytes < 2 ^ 32) × P.spells param full.now bytes }
-    ensures { (bytes : List ℕ) → P.spells param full.now bytes → result ≡ length bytes }
+fn encoded_len<P: Packing>(param: P::Param, full: &Block) -> usize
+    requires { (bytes : List ℕ) × (length bytes < 2 ^ 32) × P.encodes param full.now bytes }
+    ensures { (bytes : List ℕ) → P.encodes param full.now bytes → result ≡ length bytes }
 {
     P::byte_len(param, P::head_of(param, full))
 }
 
-fn spell<P: Packing>(param: P::Param, full: &Block, into: &mut [u8])
-    requires { (bytes : List ℕ) × P.spells param full.now bytes × (length into.old ≡ length bytes) }
-    ensures { P.spells param full.now into.new }
+fn encode<P: Packing>(param: P::Param, full: &Block, into: &mut [u8])
+    requires { (bytes : List ℕ) × P.encodes param full.now bytes × (length into.old ≡ length bytes) }
+    ensures { P.encodes param full.now into.new }
 {
     P::encode(param, P::head_of(param, full), full, into);
 }
 
 fn append<P: Packing>(param: P::Param, full: &Block, bytes: &mut Vec<u8>) -> Result<(), AllocError>
-    requires { (spelling : List ℕ) × (length spelling < 2 ^ 32) × P.spells param full.now spelling }
-    ensures ok { OnOk result ((spelling : List ℕ) × P.spells param full.now spelling × (bytes.new.items ≡ bytes.old.items ++ spelling)) }
+    requires { (encoding : List ℕ) × (length encoding < 2 ^ 32) × P.encodes param full.now encoding }
+    ensures ok { OnOk result ((encoding : List ℕ) × P.encodes param full.now encoding × (bytes.new.items ≡ bytes.old.items ++ encoding)) }
     ensures err { OnErr result (bytes.new.items ≡ bytes.old.items) }
     ensures capacity { vec_capacity bytes.old ≤ vec_capacity bytes.new }
-    ensures sure { (spelling : List ℕ) → P.spells param full.now spelling →
-        vec_len bytes.old + length spelling ≤ vec_capacity bytes.old → IsOk result }
+    ensures sure { (encoding : List ℕ) → P.encodes param full.now encoding →
+        vec_len bytes.old + length encoding ≤ vec_capacity bytes.old → IsOk result }
 {
     let head = P::head_of(param, full);
     let start = bytes.len();

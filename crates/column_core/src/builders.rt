@@ -1,12 +1,13 @@
 //! Columns built from values: one by one, or from a list.
 
 ghost use Rattle.std.specs.Prelude.{◌≡◌, ◌+◌, ◌%◌, ◌<◌, ◌≤◌, ◌++◌, ◌∷◌, [], ◌^◌, ℕ, length, take, drop, slice_index, max, true, IsOk, IfOk, OnOk, OnErr};
-ghost use Rattle.definitions.specs.Blocks.{block_len, IsFull};
-ghost use Rattle.definitions.specs.Columns.{max_rows};
-ghost use Rattle.definitions.specs.ColumnFiles.{IsColumnWidth, FitsFormat, fits_columns, static_width_of};
+ghost use Rattle.definitions_blocks.specs.Blocks.{block_len, IsFull};
+ghost use Rattle.definitions_blocks.specs.Columns.{max_rows};
+ghost use Rattle.definitions_blocks.specs.Formats.{IsColumnWidth, FitsFormat};
+ghost use Rattle.definitions_columns.specs.ColumnFiles.{fits_columns, static_width_of};
 ghost use Rattle.block_core.specs.Formats.{format_of};
-ghost use Rattle.definitions.specs.Sizes.{front_size, file_size, is_within_room};
-ghost use Rattle.column_core.specs.Columns.{encoding, reserve, shape};
+ghost use Rattle.definitions_columns.specs.Sizes.{front_size, file_size, is_within_room};
+ghost use Rattle.column_core.specs.Columns.{encoding_of, reserve, shape};
 ghost use Rattle.column_core.specs.Scopes.{IsBuilding};
 
 use crate::columns::Column;
@@ -25,14 +26,14 @@ pub struct Builder {
 }
 
 impl Model for Builder {
-    ghost use Rattle.column_core.specs.Columns.{Encoding, encoding};
+    ghost use Rattle.column_core.specs.Columns.{Encoding, encoding_of};
     ghost use Rattle.column_core.specs.Scopes.{IsBuilding};
 
     ghost Value = { Encoding };
 
     ghost use Rattle.std.specs.Prelude.{◌++◌};
 
-    ghost view = { λ builder. encoding builder.encoded.format builder.encoded.width builder.encoded.reserve (builder.encoded.values ++ builder.block) };
+    ghost view = { λ builder. encoding_of builder.encoded.format builder.encoded.width builder.encoded.reserve (builder.encoded.values ++ builder.block) };
 
     ghost invariant = { λ builder. IsBuilding builder.encoded.format builder.encoded.width builder.encoded.values builder.block };
 }
@@ -41,7 +42,7 @@ impl Builder {
     /// A builder of no values yet. With `Static` the blocks are packed at `static_width`, which is 0 with any other format.
     pub fn new(alloc: Global, format: Format, static_width: u8) -> Result<Builder, AllocError>
         requires { IsColumnWidth (format_of format) static_width }
-        ensures { IfOk result (λ builder. builder ≡ encoding format static_width (reserve 0 0) []) }
+        ensures { IfOk result (λ builder. builder ≡ encoding_of format static_width (reserve 0 0) []) }
     {
         Ok(Builder {
             encoded: Encoded::new(alloc, format, static_width)?,
@@ -52,7 +53,7 @@ impl Builder {
     /// Makes room: a push is `Ok` where the head and the whole blocks of the list have at most so many bytes and the list
     /// at most so many values, and `finish` where the whole file has. An `Err` changes nothing.
     pub fn reserve(&mut self, bytes: u64, count: u64) -> Result<(), AllocError>
-        ensures ok { OnOk result (self.new ≡ encoding self.old.format self.old.width
+        ensures ok { OnOk result (self.new ≡ encoding_of self.old.format self.old.width
             (reserve (max self.old.reserve.bytes bytes) (max self.old.reserve.count count)) self.old.values) }
         ensures err { OnErr result (self.new ≡ self.old) }
     {
@@ -66,7 +67,7 @@ impl Builder {
         requires in_scope { fits_columns (format_of self.old.format) self.old.width (self.old.values ++ values.now) ≡ true }
         ensures some { IfOk result (λ n. 0 < n) }
         ensures within { IfOk result (λ n. n ≤ length values.now) }
-        ensures ok { IfOk result (λ n. self.new ≡ encoding self.old.format self.old.width self.old.reserve (self.old.values ++ take n values.now)) }
+        ensures ok { IfOk result (λ n. self.new ≡ encoding_of self.old.format self.old.width self.old.reserve (self.old.values ++ take n values.now)) }
         ensures err { OnErr result (self.new ≡ self.old) }
         ensures sure { is_within_room (format_of self.old.format) self.old.width self.old.reserve.bytes self.old.reserve.count (self.old.values ++ values.now) ≡ true → IsOk result }
     {
@@ -97,10 +98,10 @@ impl Builder {
 
 impl Emit for Builder {
     ghost use Rattle.std.specs.Prelude.{◌≡◌, ◌+◌, ◌<◌, ◌≤◌, ◌++◌, ◌∷◌, [], ℕ, length, take, true, IsOk, OnOk, OnErr};
-    ghost use Rattle.definitions.specs.Columns.{max_rows};
-    ghost use Rattle.definitions.specs.ColumnFiles.{fits_columns};
+    ghost use Rattle.definitions_blocks.specs.Columns.{max_rows};
+    ghost use Rattle.definitions_columns.specs.ColumnFiles.{fits_columns};
     ghost use Rattle.block_core.specs.Formats.{format_of};
-    ghost use Rattle.column_core.specs.Columns.{encoding};
+    ghost use Rattle.column_core.specs.Columns.{encoding_of};
     ghost use Rattle.column_core.specs.Scopes.{Frame, frame, has_room, has_room-front, HoldsOfPrefixes-fits_columns};
 
     ghost Frame = { Frame };
@@ -116,7 +117,7 @@ impl Emit for Builder {
     fn push(&mut self, value: u64) -> Result<(), AllocError>
         requires few { length self.old.values < max_rows }
         requires in_scope { fits_columns (format_of self.old.format) self.old.width (self.old.values ++ value ∷ []) ≡ true }
-        ensures ok { OnOk result (self.new ≡ encoding self.old.format self.old.width self.old.reserve (self.old.values ++ value ∷ [])) }
+        ensures ok { OnOk result (self.new ≡ encoding_of self.old.format self.old.width self.old.reserve (self.old.values ++ value ∷ [])) }
         ensures err { OnErr result (self.new ≡ self.old) }
         ensures sure { is_within_room (format_of self.old.format) self.old.width self.old.reserve.bytes self.old.reserve.count (self.old.values ++ value ∷ []) ≡ true → IsOk result }
     {
@@ -130,8 +131,8 @@ impl Emit for Builder {
     fn extend(&mut self, values: &[u64]) -> Result<(), AllocError>
         requires few { length self.old.values + length values.now ≤ max_rows }
         requires in_scope { fits_columns (format_of self.old.format) self.old.width (self.old.values ++ values.now) ≡ true }
-        ensures ok { OnOk result (self.new ≡ encoding self.old.format self.old.width self.old.reserve (self.old.values ++ values.now)) }
-        ensures err { OnErr result ((n : ℕ) × (self.new ≡ encoding self.old.format self.old.width self.old.reserve (self.old.values ++ take n values.now))) }
+        ensures ok { OnOk result (self.new ≡ encoding_of self.old.format self.old.width self.old.reserve (self.old.values ++ values.now)) }
+        ensures err { OnErr result ((n : ℕ) × (self.new ≡ encoding_of self.old.format self.old.width self.old.reserve (self.old.values ++ take n values.now))) }
         ensures sure { is_within_room (format_of self.old.format) self.old.width self.old.reserve.bytes self.old.reserve.count (self.old.values ++ values.now) ≡ true → IsOk result }
     {
         let mut taken = 0;
@@ -150,7 +151,7 @@ impl Emit for Builder {
 fn flush(encoded: &mut Encoded, block: &mut Block) -> Result<(), AllocError>
     requires full { length block.old ≡ block_len }
     requires building { IsBuilding encoded.old.format encoded.old.width encoded.old.values block.old }
-    ensures ok { OnOk result (encoded.new ≡ encoding encoded.old.format encoded.old.width encoded.old.reserve (encoded.old.values ++ block.old)) }
+    ensures ok { OnOk result (encoded.new ≡ encoding_of encoded.old.format encoded.old.width encoded.old.reserve (encoded.old.values ++ block.old)) }
     ensures emptied { OnOk result (block.new ≡ []) }
     ensures encoded_kept { OnErr result (encoded.new ≡ encoded.old) }
     ensures block_kept { OnErr result (block.new ≡ block.old) }

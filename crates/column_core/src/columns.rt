@@ -2,9 +2,10 @@
 
 ghost use Rattle.std.specs.Prelude.{◌≡◌, ◌+◌, ◌*◌, ◌/◌, ◌%◌, ◌<◌, ◌≤◌, ℕ, List as Items, length, slice_index, take, drop, true, IfSome};
 ghost use Rattle.std.specs.Int.{from_le_bytes, w64};
-ghost use Rattle.definitions.specs.Blocks.{block_len, block_at};
-ghost use Rattle.definitions.specs.Columns.{max_rows};
-ghost use Rattle.definitions.specs.ColumnFiles.{plain, BlockOf, IsColumnFile, IsColumnWidth, IsIndexed, fits_columns, static_width_of};
+ghost use Rattle.definitions_blocks.specs.Blocks.{block_len, block_at};
+ghost use Rattle.definitions_blocks.specs.Columns.{max_rows};
+ghost use Rattle.definitions_blocks.specs.Formats.{plain, BlockOf, IsColumnWidth};
+ghost use Rattle.definitions_columns.specs.ColumnFiles.{IsColumnFile, IsIndexed, fits_columns, static_width_of};
 ghost use Rattle.block_core.specs.Formats.{format_of, tag_of};
 ghost use Rattle.column_core.specs.Columns.{shape};
 
@@ -17,7 +18,7 @@ use std::marker::Model;
 use stream_core::{Bytes, List};
 
 /// A list of at most 268,435,456 numbers in one format. It holds the column's file, and for each whole block where its
-/// spelling starts.
+/// encoding starts.
 #[derive(Drop)]
 pub struct Column {
     encoded: Encoded,
@@ -25,7 +26,7 @@ pub struct Column {
 
 impl Model for Column {
     ghost use Rattle.std.specs.Prelude.{◌≡◌};
-    ghost use Rattle.definitions.specs.ColumnFiles.{static_width_of};
+    ghost use Rattle.definitions_columns.specs.ColumnFiles.{static_width_of};
     ghost use Rattle.block_core.specs.Formats.{format_of};
     ghost use Rattle.column_core.specs.Columns.{Shape, shape};
 
@@ -51,7 +52,7 @@ impl Column {
         }
     }
 
-    /// The column of an encoding whose width is the least.
+    /// The column of an encoding_of whose width is the least.
     pub(crate) fn from_encoded(encoded: Encoded) -> Column
         requires { encoded.width ≡ static_width_of (format_of encoded.format) encoded.values }
         ensures { result ≡ shape encoded.format encoded.values }
@@ -90,7 +91,7 @@ impl Column {
         self.encoded.bytes()
     }
 
-    /// The spelling of a whole block.
+    /// The encoding of a whole block.
     pub fn block_bytes(&self, block: u64) -> &[u8]
         requires { block < length self.now.values / block_len }
         ensures { BlockOf (format_of self.now.format) (static_width_of (format_of self.now.format) self.now.values)

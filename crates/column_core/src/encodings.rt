@@ -3,14 +3,16 @@
 ghost use Rattle.std.specs.Prelude.{◌≡◌, ◌+◌, ◌*◌, ◌/◌, ◌%◌, ◌<◌, ◌≤◌, ◌++◌, ◌∷◌, [], ℕ, List as Items, length, take, drop, ◌-◌, OnOk, OnErr, IsOk, IfOk, max, vec_len};
 ghost use Rattle.std.specs.Vec.{vec_capacity};
 ghost use Rattle.std.specs.List.{AllByRecursion};
-ghost use Rattle.definitions.specs.Blocks.{block_len, block_at, IsFull};
-ghost use Rattle.definitions.specs.Columns.{IsColumn, IsWord, max_rows, words_of};
-ghost use Rattle.definitions.specs.ColumnFiles as columns;
-ghost use Rattle.definitions.specs.ColumnFiles.{BlockOf, IsColumnWidth, FitsFormat, IsEncoded, IsIndexed};
-ghost use Rattle.definitions.proofs.PieceLaws.{with_count};
+ghost use Rattle.definitions_blocks.specs.Blocks.{block_len, block_at, IsFull};
+ghost use Rattle.definitions_blocks.specs.Columns.{IsColumn, max_rows};
+ghost use Rattle.definitions_blocks.specs.Words.{IsWord, words_of};
+ghost use Rattle.definitions_blocks.specs.Formats as columns;
+ghost use Rattle.definitions_blocks.specs.Formats.{BlockOf, IsColumnWidth, FitsFormat};
+ghost use Rattle.definitions_columns.specs.ColumnFiles.{IsEncoded, IsIndexed};
+ghost use Rattle.definitions_columns.proofs.PieceLaws.{with_count};
 ghost use Rattle.block_core.specs.Formats.{format_of};
-ghost use Rattle.definitions.specs.Sizes.{front_size, file_size};
-ghost use Rattle.column_core.specs.Columns.{encoding, reserve, Spelled, Spelled-prop};
+ghost use Rattle.definitions_columns.specs.Sizes.{front_size, file_size};
+ghost use Rattle.column_core.specs.Columns.{encoding_of, reserve, Encoded, Encoded-prop};
 
 use crate::blocks::append_block;
 use crate::heads::{COUNT_AT, HEAD_LEN, head_bytes};
@@ -19,7 +21,7 @@ use block_core::{BLOCK_LEN, Block, Format};
 use std::alloc::{AllocError, Global};
 use std::marker::Model;
 
-/// A list in one format, as the file that spells it, at a width that need not be the least yet. Beside the bytes it keeps
+/// A list in one format, as the file that encodes it, at a width that need not be the least yet. Beside the bytes it keeps
 /// where each whole block starts: 8 bytes a block. It has room for what is reserved.
 #[derive(Drop)]
 pub struct Encoded {
@@ -30,20 +32,20 @@ pub struct Encoded {
     starts: Vec<u64>,
     reserved_bytes: u64,
     reserved_count: u64,
-    ghost stored: { Spelled format width bytes.items } by { Spelled-prop format width bytes.items },
+    ghost stored: { Encoded format width bytes.items } by { Encoded-prop format width bytes.items },
 }
 
 impl Model for Encoded {
     ghost use Rattle.std.specs.Prelude.{◌≡◌, ◌≤◌, ◌/◌, length};
     ghost use Rattle.std.specs.Vec.{vec_capacity};
-    ghost use Rattle.definitions.specs.Blocks.{block_len};
-    ghost use Rattle.definitions.specs.ColumnFiles.{IsIndexed};
+    ghost use Rattle.definitions_blocks.specs.Blocks.{block_len};
+    ghost use Rattle.definitions_columns.specs.ColumnFiles.{IsIndexed};
     ghost use Rattle.block_core.specs.Formats.{format_of};
-    ghost use Rattle.column_core.specs.Columns.{Encoding, encoding, reserve};
+    ghost use Rattle.column_core.specs.Columns.{Encoding, encoding_of, reserve};
 
     ghost Value = { Encoding };
 
-    ghost view = { λ encoded. encoding encoded.format encoded.width (reserve encoded.reserved_bytes encoded.reserved_count) encoded.stored.0 };
+    ghost view = { λ encoded. encoding_of encoded.format encoded.width (reserve encoded.reserved_bytes encoded.reserved_count) encoded.stored.0 };
 
     ghost invariant = { λ encoded. (encoded.count ≡ length encoded.stored.0)
         × IsIndexed (format_of encoded.format) encoded.width encoded.stored.0 encoded.bytes.items encoded.starts.items
@@ -54,7 +56,7 @@ impl Model for Encoded {
 impl Encoded {
     /// The file of no values.
     pub fn new(alloc: Global, format: Format, width: u8) -> Result<Encoded, AllocError>
-        ensures { IfOk result (λ encoded. encoded ≡ encoding format width (reserve 0 0) []) }
+        ensures { IfOk result (λ encoded. encoded ≡ encoding_of format width (reserve 0 0) []) }
     {
         let mut bytes = Vec::with_capacity(alloc, HEAD_LEN)?;
         bytes.extend_from_slice(&head_bytes(format, width, 0))?;
@@ -73,7 +75,7 @@ impl Encoded {
     pub fn adopt(format: Format, width: u8, count: u64, bytes: Vec<u8>, starts: Vec<u64>) -> Encoded
         requires { (values : Items ℕ) × (count ≡ length values) × IsIndexed (format_of format) width values bytes.items starts.items }
         ensures { (values : Items ℕ) → IsEncoded (format_of format) width values bytes.items →
-            result ≡ encoding format width (reserve 0 0) values }
+            result ≡ encoding_of format width (reserve 0 0) values }
     {
         Encoded {
             format,
@@ -88,7 +90,7 @@ impl Encoded {
 
     /// Makes room for a file of so many bytes and values. An `Err` changes nothing.
     pub fn reserve(&mut self, bytes: u64, count: u64) -> Result<(), AllocError>
-        ensures ok { OnOk result (self.new ≡ encoding self.old.format self.old.width
+        ensures ok { OnOk result (self.new ≡ encoding_of self.old.format self.old.width
             (reserve (max self.old.reserve.bytes bytes) (max self.old.reserve.count count)) self.old.values) }
         ensures err { OnErr result (self.new ≡ self.old) }
     {
@@ -128,7 +130,7 @@ impl Encoded {
         self.bytes.as_slice()
     }
 
-    /// The spelling of a whole block.
+    /// The encoding of a whole block.
     pub fn block_bytes(&self, block: u64) -> &[u8]
         requires { block < length self.now.values / block_len }
         ensures { BlockOf (format_of self.now.format) self.now.width (block_at self.now.values block) result.now }
@@ -157,7 +159,7 @@ impl Encoded {
         requires lawful { IsColumnWidth (format_of self.old.format) self.old.width }
         requires full { IsFull full.now }
         requires fits { FitsFormat (format_of self.old.format) self.old.width full.now }
-        ensures ok { OnOk result (self.new ≡ encoding self.old.format self.old.width self.old.reserve (self.old.values ++ full.now)) }
+        ensures ok { OnOk result (self.new ≡ encoding_of self.old.format self.old.width self.old.reserve (self.old.values ++ full.now)) }
         ensures err { OnErr result (self.new ≡ self.old) }
         ensures sure { front_size (format_of self.old.format) self.old.width (self.old.values ++ full.now) ≤ self.old.reserve.bytes →
             length (self.old.values ++ full.now) ≤ self.old.reserve.count → IsOk result }
@@ -180,7 +182,7 @@ impl Encoded {
         requires whole { length self.old.values % block_len ≡ 0 }
         requires few { length self.old.values + length tail.now ≤ max_rows }
         requires short { length tail.now < block_len }
-        ensures ok { OnOk result (self.new ≡ encoding self.old.format self.old.width self.old.reserve (self.old.values ++ tail.now)) }
+        ensures ok { OnOk result (self.new ≡ encoding_of self.old.format self.old.width self.old.reserve (self.old.values ++ tail.now)) }
         ensures err { OnErr result (self.new ≡ self.old) }
         ensures sure { file_size (format_of self.old.format) self.old.width (self.old.values ++ tail.now) ≤ self.old.reserve.bytes → IsOk result }
     {
@@ -191,7 +193,7 @@ impl Encoded {
     }
 }
 
-/// Appends a block's spelling and where it starts, and writes the count into the head.
+/// Appends a block's encoding and where it starts, and writes the count into the head.
 fn grow(
     format: Format,
     width: u8,
@@ -201,16 +203,16 @@ fn grow(
     starts: &mut Vec<u64>,
 ) -> Result<(), AllocError>
     requires head { 16 ≤ length bytes.old.items }
-    requires spelled { (spelling : Items ℕ) × BlockOf (format_of format) width full.now spelling }
-    ensures bytes { OnOk result ((spelling : Items ℕ) × BlockOf (format_of format) width full.now spelling
-        × (bytes.new.items ≡ with_count count (bytes.old.items ++ spelling))) }
+    requires encoded { (encoding : Items ℕ) × BlockOf (format_of format) width full.now encoding }
+    ensures bytes { OnOk result ((encoding : Items ℕ) × BlockOf (format_of format) width full.now encoding
+        × (bytes.new.items ≡ with_count count (bytes.old.items ++ encoding))) }
     ensures starts { OnOk result (starts.new.items ≡ starts.old.items ++ length bytes.old.items ∷ []) }
     ensures bytes_kept { OnErr result (bytes.new.items ≡ bytes.old.items) }
     ensures starts_kept { OnErr result (starts.new.items ≡ starts.old.items) }
     ensures bytes_capacity { vec_capacity bytes.old ≤ vec_capacity bytes.new }
     ensures starts_capacity { vec_capacity starts.old ≤ vec_capacity starts.new }
-    ensures sure { (spelling : Items ℕ) → BlockOf (format_of format) width full.now spelling →
-        vec_len bytes.old + length spelling ≤ vec_capacity bytes.old →
+    ensures sure { (encoding : Items ℕ) → BlockOf (format_of format) width full.now encoding →
+        vec_len bytes.old + length encoding ≤ vec_capacity bytes.old →
         vec_len starts.old < vec_capacity starts.old → IsOk result }
 {
     starts.push(bytes.len() as u64)?;
@@ -251,7 +253,7 @@ fn make_room<T>(items: &mut Vec<T>, wanted: usize) -> Result<(), AllocError>
     items.reserve(wanted - items.len())
 }
 
-/// The spelling of a whole block, which ends where the next one starts or the tail of so many bytes.
+/// The encoding of a whole block, which ends where the next one starts or the tail of so many bytes.
 fn block_part<'a>(bytes: &'a [u8], starts: &[u64], block: usize, tail: usize) -> &'a [u8]
     requires { (format : columns.Format) × (width : ℕ) × (values : Items ℕ) × IsIndexed format width values bytes.now starts.now
         × (block < length values / block_len) × (tail ≡ 8 * (length values % block_len)) }

@@ -1,7 +1,7 @@
 //! A column of which values are looked up by their places.
 
 ghost use Rattle.std.specs.Prelude.{◌≡◌, ◌/◌, ◌<◌, length, slice_index};
-ghost use Rattle.definitions.specs.Blocks.{block_len, block_at};
+ghost use Rattle.definitions_blocks.specs.Blocks.{block_len, block_at};
 
 use crate::columns::Column;
 use block_core::{BLOCK_LEN, Block, Format, PlaceSource, Steps};
@@ -27,7 +27,7 @@ pub struct Gather<'a, const L: usize> {
 
 impl<'a, const L: usize> Model for Gather<'a, L> {
     ghost use Rattle.std.specs.Prelude.{◌≡◌, ◌*◌, ◌<◌, List, ℕ, length};
-    ghost use Rattle.definitions.specs.Blocks.{block_len, block_at};
+    ghost use Rattle.definitions_blocks.specs.Blocks.{block_len, block_at};
 
     ghost Value = { List ℕ };
 

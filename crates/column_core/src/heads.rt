@@ -1,7 +1,7 @@
 //! The head of a column file.
 
 ghost use Rattle.std.specs.Prelude.{◌≡◌};
-ghost use Rattle.definitions.specs.Columns.{column_head};
+ghost use Rattle.definitions_columns.specs.ColumnFiles.{column_head};
 ghost use Rattle.block_core.specs.Formats.{tag_of};
 
 use crate::words::word_bytes_of;

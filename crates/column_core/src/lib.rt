@@ -1,8 +1,9 @@
 //! Columns in their formats, as bytes and as lists.
 //!
-//! A column file is the one spelling of a list of 64-bit numbers in a format.
+//! A column file is the one encoding of a list of 64-bit numbers in a format.
 #![tactic(auto)]
 
+mod block_heads;
 mod blocks;
 mod builders;
 mod columns;
@@ -10,7 +11,6 @@ mod cursors;
 mod encodings;
 mod gathers;
 mod heads;
-mod spellings;
 mod words;
 
 pub use blocks::{block_len, check_block, decode_block, encode_block};

@@ -2,11 +2,12 @@
 use Rattle.std.proofs.Common.{◌≡◌, ℕ, ◌≤◌, List, [], ◌++◌, length, take, drop, get_or, refl, sym, ap, ◌∙◌, arith, length-append}
 use Rattle.std.specs.Int.{from_le_bytes, w64}
 use Rattle.std.proofs.lemmas.List.{take_at, append-nil}
-use Rattle.definitions.specs.Columns.{column_head, word_bytes}
-use Rattle.definitions.specs.ColumnFiles as columns
-use Rattle.definitions.specs.ColumnFiles.{IsHead}
-use Rattle.definitions.proofs.WordLaws.{length-word_bytes, from_le_bytes-word_bytes}
-use Rattle.definitions.proofs.ColumnFileLaws.{length-column_head, tag_of-one}
+use Rattle.definitions_columns.specs.ColumnFiles.{column_head}
+use Rattle.definitions_blocks.specs.Words.{word_bytes}
+use Rattle.definitions_blocks.specs.Formats as columns
+use Rattle.definitions_columns.specs.FileFaults.{IsHead}
+use Rattle.definitions_blocks.proofs.WordLaws.{length-word_bytes, from_le_bytes-word_bytes}
+use Rattle.definitions_columns.proofs.ColumnFileLaws.{length-column_head, tag_of-one}
 use Rattle.block_core.specs.declared.formats.Format.{Format}
 use Rattle.block_core.specs.declared.formats.Format.TheVariants as format
 use Rattle.block_core.specs.Formats.{format_of, tag_of}

@@ -1,16 +1,17 @@
 -- How a reader goes on by a block.
 use Rattle.std.proofs.Common.{◌≡◌, ℕ, zero, suc, ◌+◌, ◌-◌, ◌*◌, ◌/◌, ◌%◌, ◌<◌, ◌≤◌, List, [], ◌∷◌, ◌++◌, length, take, drop, get_or, IfSome, refl, sym, ap, ap₂, ◌∙◌, arith, length-append, append_assoc}
 use Rattle.std.proofs.lemmas.List.{take-append-drop, drop-drop, length-take, length-drop}
-use Rattle.definitions.specs.Blocks.{block_len}
-use Rattle.definitions.specs.Columns.{column_head}
-use Rattle.definitions.specs.Packed.{IsPacked, IsWidth}
-use Rattle.definitions.specs.Spellings.{width_of}
-use Rattle.definitions.specs.ColumnFiles.{Format, plain, static, dynamic, runs, delta1_dynamic, delta16_dynamic, reference_dynamic, delta1_runs, whole_blocks, tag_of, BlockOf, LacksBlock, Piece, piece_values, piece_bytes, head_len, static_width_of, IsHead, StopsAt, HasBlocks, FileFault, bad_header, bad_block, bad_width, bad_tail, HasFileFault, IsColumnFile, IsIndexed}
-use Rattle.definitions.proofs.SpellingLaws.{width_of-is, drop-octet}
-use Rattle.definitions.proofs.BlockLaws.{BlockOf-full}
-use Rattle.definitions.proofs.ColumnFileLaws.{length-piece_values}
-use Rattle.definitions.proofs.PieceLaws.{ArePieces-push, piece_values-push, piece_bytes-push, starts_from-push}
-use Rattle.definitions.proofs.FaultLaws.{next_width, static_width_of-push, pieces_words, opening_values, file_of_opening, HasFileFault-none, HasFileFault-one}
+use Rattle.definitions_blocks.specs.Blocks.{block_len}
+use Rattle.definitions_columns.specs.ColumnFiles.{column_head, whole_blocks, Piece, piece_values, piece_bytes, head_len, static_width_of, IsColumnFile, IsIndexed}
+use Rattle.definitions_blocks.specs.Packed.{IsPacked, IsWidth}
+use Rattle.definitions_blocks.specs.Encodings.{width_of}
+use Rattle.definitions_blocks.specs.Formats.{Format, plain, static, dynamic, runs, delta1_dynamic, delta16_dynamic, reference_dynamic, delta1_runs, tag_of, BlockOf, LacksBlock}
+use Rattle.definitions_columns.specs.FileFaults.{IsHead, StopsAt, HasBlocks, FileFault, bad_header, bad_block, bad_width, bad_tail, HasFileFault}
+use Rattle.definitions_blocks.proofs.EncodingLaws.{width_of-is, drop-octet}
+use Rattle.definitions_blocks.proofs.BlockLaws.{BlockOf-full}
+use Rattle.definitions_columns.proofs.ColumnFileLaws.{length-piece_values}
+use Rattle.definitions_columns.proofs.PieceLaws.{ArePieces-push, piece_values-push, piece_bytes-push, starts_from-push}
+use Rattle.definitions_columns.proofs.FaultLaws.{next_width, static_width_of-push, pieces_words, opening_values, file_of_opening, HasFileFault-none, HasFileFault-one}
 use Rattle.column_file.specs.Reading.{BeginsWithHead, ReadSo}
 use Rattle.column_file.specs.Faults.{fault_of, Says}
 use Rattle.column_file.specs.declared.reading.ColumnError.{ColumnError}
@@ -68,24 +69,24 @@ stops_here format width count number place widest bytes starts head so more none
 pub read_more : (format : Format) (width count number place widest len wider : ℕ) (bytes starts begun values : List ℕ) → ReadSo format width count number place widest bytes starts
     → BlockOf format width values (take len (drop place bytes)) → len ≤ length (drop place bytes) → wider ≡ next_width format widest values → begun ≡ starts ++ place ∷ []
     → ReadSo format width count (number + 1) (place + len) wider bytes begun
-read_more format width count number place widest len wider bytes starts begun values so spelled inside widens begins =
-    let spelling = take len (drop place bytes) in
-    let piece : Piece = record { values = values; spelling = spelling } in
-    let full = BlockOf-full format width values spelling spelled in
-    let size : length spelling ≡ len = omega (arith, length-take len (drop place bytes)) in
-    let rest : spelling ++ drop (place + len) bytes ≡ drop place bytes = ap (λ l. spelling ++ l) (sym (drop-drop len place bytes)) ∙ take-append-drop len (drop place bytes) in
+read_more format width count number place widest len wider bytes starts begun values so encoded inside widens begins =
+    let encoding = take len (drop place bytes) in
+    let piece : Piece = record { values = values; encoding = encoding } in
+    let full = BlockOf-full format width values encoding encoded in
+    let size : length encoding ≡ len = omega (arith, length-take len (drop place bytes)) in
+    let rest : encoding ++ drop (place + len) bytes ≡ drop place bytes = ap (λ l. encoding ++ l) (sym (drop-drop len place bytes)) ∙ take-append-drop len (drop place bytes) in
     let many : length (so.pieces ++ piece ∷ []) ≡ number + 1 = omega (arith, length-append so.pieces (piece ∷ []), so.many) in
     let here : place ≡ head_len + length (piece_bytes so.pieces) = so.place_is in
     record {
       pieces = so.pieces ++ piece ∷ [];
-      blocks = ArePieces-push format width so.pieces piece so.blocks spelled;
+      blocks = ArePieces-push format width so.pieces piece so.blocks encoded;
       many = many;
-      place_is = omega (arith, here, size, ap length (piece_bytes-push so.pieces piece), length-append (piece_bytes so.pieces) spelling);
+      place_is = omega (arith, here, size, ap length (piece_bytes-push so.pieces piece), length-append (piece_bytes so.pieces) encoding);
       within = omega (arith, length-drop place bytes, so.within);
       bytes_are =
           so.bytes_are
           ∙ ap (λ (l : List ℕ). column_head (tag_of format) width count ++ l)
-          (ap (λ l. piece_bytes so.pieces ++ l) (sym rest) ∙ sym (append_assoc (piece_bytes so.pieces) spelling (drop (place + len) bytes)) ∙ ap (λ l. l ++ drop (place + len) bytes) (sym (piece_bytes-push so.pieces piece)));
+          (ap (λ l. piece_bytes so.pieces ++ l) (sym rest) ∙ sym (append_assoc (piece_bytes so.pieces) encoding (drop (place + len) bytes)) ∙ ap (λ l. l ++ drop (place + len) bytes) (sym (piece_bytes-push so.pieces piece)));
       starts_are = begins ∙ ap₂ (λ (l : List ℕ) (n : ℕ). l ++ n ∷ []) so.starts_are here ∙ sym (starts_from-push head_len so.pieces piece);
       widest_is =
           widens ∙ ap (λ n. next_width format n values) so.widest_is

@@ -1,6 +1,6 @@
 -- What an error says of the bytes.
 use Rattle.std.specs.Prelude.{ℕ, List, Option, Some, None, IfSome}
-use Rattle.definitions.specs.ColumnFiles.{FileFault, bad_header, bad_block, bad_width, bad_tail, HasFileFault}
+use Rattle.definitions_columns.specs.FileFaults.{FileFault, bad_header, bad_block, bad_width, bad_tail, HasFileFault}
 use Rattle.column_file.specs.declared.reading.ColumnError.{ColumnError}
 use Rattle.column_file.specs.declared.reading.ColumnError.TheVariants as error
 

@@ -1,7 +1,8 @@
 -- What a reader of a column file knows so far.
 use Rattle.std.specs.Prelude.{◌≡◌, ℕ, ◌+◌, ◌≤◌, List, ◌++◌, length, drop}
-use Rattle.definitions.specs.Columns.{column_head}
-use Rattle.definitions.specs.ColumnFiles.{Format, tag_of, Piece, ArePieces, piece_values, piece_bytes, starts_from, head_len, static_width_of, IsHead}
+use Rattle.definitions_columns.specs.ColumnFiles.{column_head, Piece, ArePieces, piece_values, piece_bytes, starts_from, head_len, static_width_of}
+use Rattle.definitions_blocks.specs.Formats.{Format, tag_of}
+use Rattle.definitions_columns.specs.FileFaults.{IsHead}
 
 -- the bytes begin with no head
 abbrev pub LacksHead : List ℕ → Type 0

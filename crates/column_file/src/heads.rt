@@ -2,8 +2,9 @@
 
 ghost use Rattle.std.specs.Prelude.{◌≡◌, ◌+◌, ◌≤◌, ◌↔◌, ℕ, List, length, take, drop, IsTrue, MatchOption};
 ghost use Rattle.std.specs.Int.{from_le_bytes, w64};
-ghost use Rattle.definitions.specs.Columns.{column_head, max_rows};
-ghost use Rattle.definitions.specs.ColumnFiles.{IsColumnWidth};
+ghost use Rattle.definitions_columns.specs.ColumnFiles.{column_head};
+ghost use Rattle.definitions_blocks.specs.Columns.{max_rows};
+ghost use Rattle.definitions_blocks.specs.Formats.{IsColumnWidth};
 ghost use Rattle.block_core.specs.Formats.{format_of, tag_of};
 ghost use Rattle.column_file.specs.Reading.{LacksHead, BeginsWithHead};
 

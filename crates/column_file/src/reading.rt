@@ -1,12 +1,14 @@
 //! Reading a column file.
 
 ghost use Rattle.std.specs.Prelude.{◌≡◌, ◌≢◌, ◌+◌, ◌-◌, ◌*◌, ◌/◌, ◌%◌, ◌<◌, ◌≤◌, ◌++◌, ◌∷◌, ℕ, List as Items, [], max, length, take, drop, Option, Some, IfOk, IfErr, IfSome, OnOk, MatchResult};
-ghost use Rattle.definitions.specs.Blocks.{block_len};
-ghost use Rattle.definitions.specs.ColumnFiles as columns;
-ghost use Rattle.definitions.specs.ColumnFiles.{BlockOf, IsColumnFile, IsIndexed, static_width_of, FileFault, HasFileFault};
-ghost use Rattle.definitions.specs.Packed.{IsPacked};
-ghost use Rattle.definitions.specs.Spellings.{width_of};
-ghost use Rattle.definitions.proofs.FaultLaws.{next_width};
+ghost use Rattle.definitions_blocks.specs.Blocks.{block_len};
+ghost use Rattle.definitions_blocks.specs.Formats as columns;
+ghost use Rattle.definitions_blocks.specs.Formats.{BlockOf};
+ghost use Rattle.definitions_columns.specs.ColumnFiles.{IsColumnFile, IsIndexed, static_width_of};
+ghost use Rattle.definitions_columns.specs.FileFaults.{FileFault, HasFileFault};
+ghost use Rattle.definitions_blocks.specs.Packed.{IsPacked};
+ghost use Rattle.definitions_blocks.specs.Encodings.{width_of};
+ghost use Rattle.definitions_columns.proofs.FaultLaws.{next_width};
 ghost use Rattle.block_core.specs.Formats.{format_of};
 ghost use Rattle.column_core.specs.Columns.{shape};
 ghost use Rattle.column_file.specs.Reading.{BeginsWithHead, ReadSo};
@@ -123,7 +125,7 @@ fn read_blocks(alloc: Global, head: Head, bytes: &[u8]) -> Result<Blocks, Column
 /// The least width that holds the blocks so far and this one. Only in the format `static`, and until the width in the head is
 /// reached, is a block opened for it.
 fn widened(head: Head, widest: u8, bytes: &[u8], scratch: &mut Block) -> u8
-    requires spelled { (values : Items ℕ) × BlockOf (format_of head.format) head.width values bytes.now }
+    requires encoded { (values : Items ℕ) × BlockOf (format_of head.format) head.width values bytes.now }
     ensures { (values : Items ℕ) → BlockOf (format_of head.format) head.width values bytes.now →
         result ≡ next_width (format_of head.format) widest values }
 {
@@ -135,7 +137,7 @@ fn widened(head: Head, widest: u8, bytes: &[u8], scratch: &mut Block) -> u8
 
 /// The same in the format `static`.
 fn widened_static(width: u8, widest: u8, bytes: &[u8], scratch: &mut Block) -> u8
-    requires spelled { (values : Items ℕ) × IsPacked width values bytes.now }
+    requires encoded { (values : Items ℕ) × IsPacked width values bytes.now }
     ensures { (values : Items ℕ) → IsPacked width values bytes.now → result ≡ max widest (width_of values) }
 {
     if widest >= width {

@@ -1,13 +1,13 @@
 //! Words as a column.
 
 ghost use Rattle.std.specs.Prelude.{◌≤◌, length, IfOk};
-ghost use Rattle.definitions.specs.Columns.{max_rows};
+ghost use Rattle.definitions_blocks.specs.Columns.{max_rows};
 
 use block_core::{Format, MAX_ROWS};
 use column_core::{Column, encode_list};
 use std::alloc::{AllocError, Global};
 
-/// The words that the bytes spell, as many as a column has at most. Bytes after the last whole word are left.
+/// The words that the bytes encode, as many as a column has at most. Bytes after the last whole word are left.
 fn words_of(alloc: Global, bytes: &[u8]) -> Result<Vec<u64>, AllocError>
     ensures { IfOk result (λ values. length values.items ≤ max_rows) }
 {

@@ -1,3 +1,4 @@
 pub mod TextLemmas
 pub mod StepLemmas
 pub mod RunLemmas
+mod WorkedExamples

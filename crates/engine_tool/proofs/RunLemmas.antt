@@ -2,10 +2,10 @@
 use Rattle.std.proofs.Common.{◌≡◌, ◌≢◌, ℕ, List, Option, Some, None, Result, Ok, Err, refl, sym, ap, ◌∙◌, subst, inl, inr, ◌⊎◌, arith}
 use Rattle.std.specs.Prelude.{OnOk, IsErrOf, codes}
 use Rattle.std.specs.Io.KnownBytes.{Keeps, Appends, IsAtEnd}
-use Rattle.definitions.specs.Databases.{Files}
-use Rattle.definitions.specs.Faults.{Rose}
-use Rattle.definitions.specs.Replies.{IsQueryCommand, CommandReply, Reply, reply_of, Replies}
-use Rattle.definitions.specs.Headline.{Outside, FilesAre, KeepsFiles, IsReplied, ReadsInput, ChangesNoFile, HasFault, IsCutOff, SaysFault, store, input, reply, memory, SaysMemory, IsComplete}
+use Rattle.stream_core.specs.Files.{Files}
+use Rattle.stream_core.specs.Faults.{Rose}
+use Rattle.engine_tool.specs.Replies.{IsQueryCommand, CommandReply, Reply, reply_of, Replies}
+use Rattle.engine_tool.specs.Headline.{Outside, FilesAre, KeepsFiles, IsReplied, ReadsInput, ChangesNoFile, HasFault, IsCutOff, SaysFault, store, input, reply, memory, SaysMemory, IsComplete}
 use Rattle.engine_tool.specs.declared.stops.Refusal.TheVariants as refusal
 use Rattle.engine_tool.specs.declared.stops.Stop.{Stop}
 use Rattle.engine_tool.specs.declared.stops.Stop.TheVariants as stop

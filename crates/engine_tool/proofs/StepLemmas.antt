@@ -1,6 +1,6 @@
 -- Steps of the code, one after the other, are the steps of their definitions.
 use Rattle.std.proofs.Common.{Result, Ok, Err, refl, inl, inr}
-use Rattle.definitions.specs.Outcomes.{Outcomes, Then}
+use Rattle.engine_tool.specs.Outcomes.{Outcomes, Then}
 use Rattle.engine_tool.specs.declared.stops.Stop.{Stop}
 use Rattle.engine_tool.specs.declared.stops.Stop.TheVariants as stop
 use Rattle.engine_tool.specs.Stops.{refusal_of, Ends}

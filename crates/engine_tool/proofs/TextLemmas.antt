@@ -10,8 +10,8 @@ use Rattle.std.specs.Char.{is_ascii_digit}
 use Rattle.std.specs.Prelude.{◌==◌, nat_lt}
 use Rattle.std.specs.Prelude.{not, nat_le}
 use Rattle.std.specs.List.{list_all}
-use Rattle.definitions.specs.Names.{max_name, begins_with_letter, is_name_byte, is_keyword, IsName}
-use Rattle.definitions.specs.Tokens.{Token, word, number, string, symbol, is_white_space, begins_word, continues_word, front, behind, is_symbol, symbol_of_one, symbol_at, number_of, quoted, token_at, first_token, value_of, value_from, Begins}
+use Rattle.stream_core.specs.Names.{max_name, begins_with_letter, is_name_byte, is_keyword, IsName}
+use Rattle.engine_tool.specs.Tokens.{Token, word, number, string, symbol, is_white_space, begins_word, continues_word, front, behind, is_symbol, symbol_of_one, symbol_at, number_of, quoted, token_at, first_token, value_of, value_from, Begins}
 use Rattle.engine_tool.specs.Texts.{LacksToken, HasToken}
 
 -- the first token of a text is that of the text after white space

@@ -2,3 +2,10 @@ pub mod Texts
 pub mod Stops
 pub mod Tables
 pub mod Runs
+pub mod Tokens
+pub mod Queries
+pub mod NowFiles
+pub mod Answers
+pub mod Outcomes
+pub mod Replies
+pub mod Headline

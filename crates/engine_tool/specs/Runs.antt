@@ -1,9 +1,9 @@
 -- A command's reply in the code, and what was written of it.
 use Rattle.std.specs.Prelude.{◌≡◌, ℕ, ◌<◌, ◌⊎◌, List, length, take, Option, Result}
 use Rattle.std.specs.Io.KnownBytes.{Appends}
-use Rattle.definitions.specs.Databases.{Files}
-use Rattle.definitions.specs.Faults.{Rose}
-use Rattle.definitions.specs.Headline.{Outside}
+use Rattle.stream_core.specs.Files.{Files}
+use Rattle.stream_core.specs.Faults.{Rose}
+use Rattle.engine_tool.specs.Headline.{Outside}
 use Rattle.engine_tool.specs.declared.stops.Stop.{Stop}
 use Rattle.engine_tool.specs.Stops.{status_of, text_of}
 

@@ -1,8 +1,8 @@
 -- How a step of a command ends in the code, and what that means among the outcomes of its definition.
 use Rattle.std.specs.Prelude.{ℕ, List, ◌++◌, codes, decimal, Result, Ok, Err}
-use Rattle.definitions.specs.Outcomes as outcomes
-use Rattle.definitions.specs.Outcomes.{Outcomes}
-use Rattle.definitions.specs.Replies.{bad_usage, bad_query, bad_file, sum_too_wide}
+use Rattle.engine_tool.specs.Outcomes as outcomes
+use Rattle.engine_tool.specs.Outcomes.{Outcomes}
+use Rattle.engine_tool.specs.Replies.{bad_usage, bad_query, bad_file, sum_too_wide}
 use Rattle.engine_tool.specs.declared.stops.What.{What}
 use Rattle.engine_tool.specs.declared.stops.What.TheVariants as what
 use Rattle.engine_tool.specs.declared.stops.Refusal.{Refusal}

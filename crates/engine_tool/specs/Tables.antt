@@ -1,6 +1,6 @@
 -- What the reader of a table's files gives.
 use Rattle.std.specs.Prelude.{ℕ}
-use Rattle.definitions.specs.Databases as databases
+use Rattle.engine_tool.specs.NowFiles as databases
 use Rattle.engine_tool.specs.declared.now_file.Slot.{Slot}
 use Rattle.engine_tool.specs.declared.now_file.Slot.TheVariants as slot
 use Rattle.engine_tool.specs.declared.now_file.Now.{Now}

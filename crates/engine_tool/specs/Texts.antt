@@ -1,9 +1,9 @@
 -- What the reader of a query's text gives.
 use Rattle.std.specs.Prelude.{◌≡◌, ℕ, Bool, List, Option, Some, None}
 use Rattle.std.specs.Char.{is_ascii_digit}
-use Rattle.definitions.specs.Tokens.{Token, is_white_space, continues_word, first_token}
-use Rattle.definitions.specs.Queries as queries
-use Rattle.definitions.specs.Queries.{Query}
+use Rattle.engine_tool.specs.Tokens.{Token, is_white_space, continues_word, first_token}
+use Rattle.engine_tool.specs.Queries as queries
+use Rattle.engine_tool.specs.Queries.{Query}
 use Rattle.engine_tool.specs.declared.text.Class.{Class}
 use Rattle.engine_tool.specs.declared.text.Class.TheVariants as class
 use Rattle.engine_tool.specs.declared.text.Condition.{Condition}

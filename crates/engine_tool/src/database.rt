@@ -1,12 +1,12 @@
 //! The files of a table.
 
 ghost use Rattle.std.specs.Prelude.{◌≡◌, ℕ, ◌≤◌, List as Items, Some, Ok, Err, length, IfOk, IsErrOf, IsTrue, ◌↔◌};
-ghost use Rattle.definitions.specs.Databases.{Files};
-ghost use Rattle.definitions.specs.Faults.{Rose};
-ghost use Rattle.definitions.specs.Names.{now_file_name, column_file_name};
-ghost use Rattle.definitions.specs.Outcomes.{Gives};
-ghost use Rattle.definitions.specs.Replies.{NowOf, ValuesOf, ColumnBytesOf, RowsOf, ColumnOf, KeptOf, SummedOf};
-ghost use Rattle.definitions.specs.Sums.{kept_values};
+ghost use Rattle.stream_core.specs.Files.{Files};
+ghost use Rattle.stream_core.specs.Faults.{Rose};
+ghost use Rattle.stream_core.specs.Names.{now_file_name, column_file_name};
+ghost use Rattle.engine_tool.specs.Outcomes.{Gives};
+ghost use Rattle.engine_tool.specs.Replies.{NowOf, ValuesOf, ColumnBytesOf, RowsOf, ColumnOf, KeptOf, SummedOf};
+ghost use Rattle.definitions_operators.specs.Sums.{kept_values};
 ghost use Rattle.column_file.specs.Faults.{Says};
 ghost use Rattle.engine_tool.specs.Stops.{Ends, EndsAs};
 ghost use Rattle.engine_tool.specs.Texts.{condition_view, query_view};

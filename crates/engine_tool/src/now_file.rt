@@ -2,8 +2,8 @@
 
 ghost use Rattle.std.specs.Prelude.{◌≡◌, drop, length, MatchOption};
 ghost use Rattle.std.specs.Int.{from_le_bytes, w64};
-ghost use Rattle.definitions.specs.Databases as databases;
-ghost use Rattle.definitions.specs.Databases.{IsSlot, now_file, IsNowFile};
+ghost use Rattle.engine_tool.specs.NowFiles as databases;
+ghost use Rattle.engine_tool.specs.NowFiles.{IsSlot, now_file, IsNowFile};
 ghost use Rattle.engine_tool.specs.Tables.{letter_of, now_view};
 
 use block_core::MAX_ROWS;
@@ -61,7 +61,7 @@ fn rows_in(bytes: &[u8]) -> u64
 }
 
 /// The now file of a slot and a row count.
-#[tactic(auto, unfolding(definitions::specs::Columns::word_bytes))]
+#[tactic(auto, unfolding(definitions_blocks::specs::Words::word_bytes))]
 fn now_file(slot: Slot, rows: u64) -> [u8; 13]
     ensures { result ≡ now_file (now_view (record { slot = slot; rows = rows })) }
 {

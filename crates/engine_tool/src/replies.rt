@@ -2,11 +2,11 @@
 
 ghost use Rattle.std.specs.Prelude.{◌≡◌, ℕ, ◌≤◌, ◌↔◌, List as Items, Some, length, map, string_bytes, IsTrue, IsErrOf, OnOk, IfOk};
 ghost use Rattle.std.specs.Io.KnownBytes.{IsAtEnd};
-ghost use Rattle.definitions.specs.Databases.{Files};
-ghost use Rattle.definitions.specs.Faults.{Rose};
-ghost use Rattle.definitions.specs.Outcomes.{OneOr, Then};
-ghost use Rattle.definitions.specs.Queries.{max_query};
-ghost use Rattle.definitions.specs.Replies.{bad_query, IsQueryCommand, QueryOf, SummedOf, AnswerOf, CommandReply};
+ghost use Rattle.stream_core.specs.Files.{Files};
+ghost use Rattle.stream_core.specs.Faults.{Rose};
+ghost use Rattle.engine_tool.specs.Outcomes.{OneOr, Then};
+ghost use Rattle.engine_tool.specs.Queries.{max_query};
+ghost use Rattle.engine_tool.specs.Replies.{bad_query, IsQueryCommand, QueryOf, SummedOf, AnswerOf, CommandReply};
 ghost use Rattle.engine_tool.specs.Stops.{Ends, EndsAs};
 ghost use Rattle.engine_tool.specs.Texts.{query_view};
 

@@ -1,7 +1,7 @@
 //! The top call.
 
 ghost use Rattle.std.specs.Prelude.{◌≡◌, map, string_bytes};
-ghost use Rattle.definitions.specs.Headline.{IsReplied, ReadsInput, ChangesNoFile, HasFault, SaysFault, SaysMemory, IsComplete};
+ghost use Rattle.engine_tool.specs.Headline.{IsReplied, ReadsInput, ChangesNoFile, HasFault, SaysFault, SaysMemory, IsComplete};
 ghost use Rattle.engine_tool.specs.Runs.{outside, IsWritten};
 
 use crate::replies::reply;

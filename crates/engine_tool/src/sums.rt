@@ -1,9 +1,10 @@
 //! The sum over a query's rows.
 
 ghost use Rattle.std.specs.Prelude.{◌≡◌, ◌^◌, ◌<◌, ◌≤◌, length, sum, SomeIff, IfOk, IsErrOf};
-ghost use Rattle.definitions.specs.Outcomes.{OneOr};
-ghost use Rattle.definitions.specs.Replies.{sum_too_wide};
-ghost use Rattle.definitions.specs.Sums.{kept_values, IsSum, answer_text};
+ghost use Rattle.engine_tool.specs.Outcomes.{OneOr};
+ghost use Rattle.engine_tool.specs.Replies.{sum_too_wide};
+ghost use Rattle.definitions_operators.specs.Sums.{kept_values, IsSum};
+ghost use Rattle.engine_tool.specs.Answers.{answer_text};
 ghost use Rattle.engine_tool.specs.Stops.{EndsAs};
 
 use crate::stops::{Refusal, Stop};

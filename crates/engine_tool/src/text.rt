@@ -7,10 +7,10 @@ ghost use Rattle.std.specs.Prelude.{◌≡◌, ℕ, ◌^◌, ◌<◌, ◌≤◌,
 ghost use Rattle.std.specs.Char.{is_ascii_digit};
 ghost use Rattle.std.specs.Str.{str_to_ascii_lowercase};
 ghost use Rattle.std.specs.List.{prefix_len, list_all, AllPass};
-ghost use Rattle.definitions.specs.Names.{is_name_byte, is_keyword, begins_with_letter, IsName};
-ghost use Rattle.definitions.specs.Tokens.{word, number, symbol, is_white_space, begins_word, continues_word, front, behind, value_of, Begins, AreTokens};
-ghost use Rattle.definitions.specs.Queries as queries;
-ghost use Rattle.definitions.specs.Queries.{Query, Spells, NamesTested, item_tokens, table_tokens, condition_tokens, where_tokens};
+ghost use Rattle.stream_core.specs.Names.{is_name_byte, is_keyword, begins_with_letter, IsName};
+ghost use Rattle.engine_tool.specs.Tokens.{word, number, symbol, is_white_space, begins_word, continues_word, front, behind, value_of, Begins, AreTokens};
+ghost use Rattle.engine_tool.specs.Queries as queries;
+ghost use Rattle.engine_tool.specs.Queries.{Query, Spells, NamesTested, item_tokens, table_tokens, condition_tokens, where_tokens};
 ghost use Rattle.engine_tool.specs.Texts.{class_test, LacksToken, HasToken, condition_view, query_view};
 
 use arrayvec::ArrayString;

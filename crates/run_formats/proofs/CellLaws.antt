@@ -1,15 +1,15 @@
--- The cells of a block spell its runs, and cells whose runs pass are those of a block.
+-- The cells of a block encode its runs, and cells whose runs pass are those of a block.
 use Rattle.std.proofs.Common.{◌≡◌, ◌≢◌, ℕ, zero, suc, ◌+◌, ◌-◌, ◌*◌, ◌/◌, ◌^◌, ◌<◌, ◌≤◌, Option, Some, None, List, [], ◌∷◌, ◌++◌, length, map, take, drop, get_or, flat_map, replicate, refl, sym, ap, ap₂, ◌∙◌, subst, arith, length-append, append_assoc}
 use Rattle.std.specs.Int.{from_le_bytes, w16, w64}
 use Rattle.std.specs.List.{AllByRecursion}
 use Rattle.std.specs.Simd.{first_chunks}
 use Rattle.std.proofs.Math.Seq.{take-add}
 use Rattle.std.proofs.lemmas.List.{length-take, length-drop, length-replicate, get_or-take, get_or-drop, get_or_past, take-append-drop, take_at, drop_at, append-nil}
-use Rattle.definitions.specs.Blocks.{block_len}
-use Rattle.definitions.specs.Columns.{IsWord, word_bytes}
-use Rattle.definitions.specs.Runs.{Run, run_values, NeighboursDiffer, AreRunsOf, two_bytes, run_bytes, run_count, IsRunsBlock}
-use Rattle.definitions.proofs.WordLaws.{length-word_bytes, from_le_bytes-word_bytes, word_bytes-from_le_bytes}
-use Rattle.definitions.proofs.RunLaws.{AreOctets, RunFits, IsRunCount, length-two_bytes, from_le_bytes-two_bytes, two_bytes-from_le_bytes, length-run_bytes, AreRunsOf-count, AreRunsOf-fit, IsFull-run_count, IsRunsBlock-length}
+use Rattle.definitions_blocks.specs.Blocks.{block_len}
+use Rattle.definitions_blocks.specs.Words.{IsWord, word_bytes}
+use Rattle.definitions_blocks.specs.Runs.{Run, run_values, NeighboursDiffer, AreRunsOf, two_bytes, run_bytes, run_count, IsRunsBlock}
+use Rattle.definitions_blocks.proofs.WordLaws.{length-word_bytes, from_le_bytes-word_bytes, word_bytes-from_le_bytes}
+use Rattle.definitions_blocks.proofs.RunLaws.{AreOctets, RunFits, IsRunCount, length-two_bytes, from_le_bytes-two_bytes, two_bytes-from_le_bytes, length-run_bytes, AreRunsOf-count, AreRunsOf-fit, IsFull-run_count, IsRunsBlock-length}
 use Rattle.run_formats.specs.Cells.{count_in, value_in, times_in, run_in, cells_in, Passes, BeginsWithRuns}
 
 AreOctets-take : (n : ℕ) (bytes : List ℕ) → AreOctets bytes → AreOctets (take n bytes)
@@ -53,7 +53,7 @@ pub length-runs_in : (count : ℕ) (bytes : List ℕ) → length (map run_in (fi
 length-runs_in zero bytes = refl
 length-runs_in (suc count) bytes = ap (λ (n : ℕ). suc n) (length-runs_in count (drop 10 bytes))
 
--- the runs in cells spell the cells
+-- the runs in cells encode the cells
 runs_bytes-runs_in : (count : ℕ) (bytes : List ℕ) → 10 * count ≤ length bytes → AreOctets bytes → flat_map run_bytes (map run_in (first_chunks 10 count bytes)) ≡ take (10 * count) bytes
 runs_bytes-runs_in zero bytes within are = refl
 runs_bytes-runs_in (suc count) bytes within are =
@@ -165,7 +165,7 @@ block_in_front bytes are begins =
         full = record { whole = passed.covers; words = words_in count (drop 2 bytes) (AreOctets-drop 2 bytes are) };
         runs = runs;
         are = are_runs;
-        spelled = take-add 2 (10 * count) bytes ∙ ap (λ (front : List ℕ). front ++ take (10 * count) (drop 2 bytes)) (sym head)
+        encoded = take-add 2 (10 * count) bytes ∙ ap (λ (front : List ℕ). front ++ take (10 * count) (drop 2 bytes)) (sym head)
             ∙ ap (λ (back : List ℕ). two_bytes (length runs) ++ back) (sym body);
       };
       headed = sym long ∙ AreRunsOf-count runs (run_values runs) are_runs;
@@ -178,13 +178,13 @@ pub record FrontRuns (values bytes : List ℕ) : Type 0 where
   pub few : IsRunCount (run_count values)
   pub are : AreRunsOf (map run_in (cells_in (count_in bytes) bytes)) values
 
-pub front_runs : (values spelling rest bytes : List ℕ) → IsRunsBlock values spelling → bytes ≡ spelling ++ rest → FrontRuns values bytes
-front_runs values spelling rest bytes is e =
+pub front_runs : (values encoding rest bytes : List ℕ) → IsRunsBlock values encoding → bytes ≡ encoding ++ rest → FrontRuns values bytes
+front_runs values encoding rest bytes is e =
     let runs = is.runs in
     let body = flat_map run_bytes runs in
     let count : length runs ≡ run_count values = AreRunsOf-count runs values is.are in
     let few : IsRunCount (run_count values) = IsFull-run_count values is.full in
-    let split : bytes ≡ two_bytes (length runs) ++ (body ++ rest) = e ∙ ap (λ (front : List ℕ). front ++ rest) is.spelled ∙ append_assoc (two_bytes (length runs)) body rest in
+    let split : bytes ≡ two_bytes (length runs) ++ (body ++ rest) = e ∙ ap (λ (front : List ℕ). front ++ rest) is.encoded ∙ append_assoc (two_bytes (length runs)) body rest in
     let head : count_in bytes ≡ length runs = ap count_in split ∙ count_in-two_bytes (length runs) (body ++ rest) (omega (arith, few.most)) in
     let back : drop 2 bytes ≡ body ++ rest = ap (drop 2) split ∙ drop_at (two_bytes (length runs)) (body ++ rest) 2 (length-two_bytes (length runs)) in
     let read : map run_in (cells_in (count_in bytes) bytes) ≡ runs =
@@ -192,14 +192,14 @@ front_runs values spelling rest bytes is e =
     ∙ runs_in-runs_bytes runs rest (AreRunsOf-fit runs values is.are is.full) in
     record {
       headed = head ∙ count;
-      size = omega (arith, ap length e, length-append spelling rest, IsRunsBlock-length values spelling is);
+      size = omega (arith, ap length e, length-append encoding rest, IsRunsBlock-length values encoding is);
       few = few;
       are = subst (λ (list : List Run). AreRunsOf list values) (sym read) is.are;
     }
 
-pub begins_with_block : (values spelling rest bytes : List ℕ) → IsRunsBlock values spelling → bytes ≡ spelling ++ rest → BeginsWithRuns bytes
-begins_with_block values spelling rest bytes is e =
-    let front : FrontRuns values bytes = front_runs values spelling rest bytes is e in
+pub begins_with_block : (values encoding rest bytes : List ℕ) → IsRunsBlock values encoding → bytes ≡ encoding ++ rest → BeginsWithRuns bytes
+begins_with_block values encoding rest bytes is e =
+    let front : FrontRuns values bytes = front_runs values encoding rest bytes is e in
     let runs = map run_in (cells_in (count_in bytes) bytes) in
     record {
       headed = omega (arith, front.size);

@@ -3,8 +3,8 @@ use Rattle.std.proofs.Common.{◌≡◌, ℕ, ◌+◌, ◌-◌, ◌*◌, ◌<◌
 use borrow.Rule.Slice.PartMut.{put_mid}
 use Rattle.std.proofs.lemmas.List.{take-append-drop, length-take, length-drop, length-replicate, take_at, drop_all, at_drop_more, append-nil}
 use Rattle.std.proofs.lemmas.Slice.{take-put_mid}
-use Rattle.definitions.specs.Runs.{Run, run_values, run_bytes}
-use Rattle.definitions.proofs.RunLaws.{length-run_bytes, length-runs_bytes, runs_from, runs_from-same, runs_from-other, length-runs_from}
+use Rattle.definitions_blocks.specs.Runs.{Run, run_values, run_bytes}
+use Rattle.definitions_blocks.proofs.RunLaws.{length-run_bytes, length-runs_bytes, runs_from, runs_from-same, runs_from-other, length-runs_from}
 use Rattle.run_formats.specs.Cells.{value_in, times_in, run_in}
 
 -- a front and a rest that are written one after the other

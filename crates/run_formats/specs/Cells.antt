@@ -1,9 +1,9 @@
--- The runs that bytes spell: two bytes say how many, and each stands in a cell of ten bytes.
+-- The runs that bytes encode: two bytes say how many, and each stands in a cell of ten bytes.
 use Rattle.std.specs.Prelude.{◌≡◌, ◌≢◌, ℕ, ◌+◌, ◌-◌, ◌*◌, ◌<◌, ◌≤◌, List, [], ◌∷◌, length, take, drop, map, Option, Some, None}
 use Rattle.std.specs.Int.{from_le_bytes, w16, w64}
 use Rattle.std.specs.Simd.{first_chunks}
-use Rattle.definitions.specs.Blocks.{block_len}
-use Rattle.definitions.specs.Runs.{Run}
+use Rattle.definitions_blocks.specs.Blocks.{block_len}
+use Rattle.definitions_blocks.specs.Runs.{Run}
 use Rattle.run_formats.specs.declared.pairs.RunIter.{RunIter}
 
 -- how many runs the bytes say there are

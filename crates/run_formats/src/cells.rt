@@ -19,7 +19,7 @@ pub fn run_count_in(bytes: &[u8]) -> u16
     u16::from_le_bytes([bytes[0], bytes[1]])
 }
 
-/// How long the spelling of a block of so many runs is.
+/// How long the encoding of a block of so many runs is.
 pub fn block_size(runs: u16) -> usize
     ensures { result ≡ 2 + 10 * runs }
 {

@@ -2,7 +2,7 @@
 
 ghost use Rattle.std.specs.Prelude.{ℕ, List};
 ghost use Rattle.std.specs.Iterator.{YieldsFirstBy, item_count};
-ghost use Rattle.definitions.specs.Runs.{AreRunsOf, IsRunsBlock};
+ghost use Rattle.definitions_blocks.specs.Runs.{AreRunsOf, IsRunsBlock};
 ghost use Rattle.run_formats.specs.Cells.{run_of, runs_left};
 
 use crate::cells::{cells_of, run_count_in, times_of, value_of};
@@ -14,7 +14,7 @@ pub struct RunIter<'a> {
 }
 
 impl<'a> RunIter<'a> {
-    /// The runs of the block that these bytes spell.
+    /// The runs of the block that these bytes encode.
     pub fn new(bytes: &'a [u8]) -> RunIter<'a>
         requires { (values : List ℕ) × IsRunsBlock values bytes.now }
         ensures { (values : List ℕ) → IsRunsBlock values bytes.now → AreRunsOf (runs_left result) values }

@@ -1,8 +1,8 @@
 //! Reading a block: what its bytes have to be, and its values.
 
 ghost use Rattle.std.specs.Prelude.{◌≡◌, ◌≢◌, ◌↔◌, ℕ, List, length, map, replicate, slice_index, take, ◌<◌, ◌≤◌, IsTrue, MatchOption, Some, None};
-ghost use Rattle.definitions.specs.Blocks.{block_len};
-ghost use Rattle.definitions.specs.Runs.{run_values, IsRunsBlock};
+ghost use Rattle.definitions_blocks.specs.Blocks.{block_len};
+ghost use Rattle.definitions_blocks.specs.Runs.{run_values, IsRunsBlock};
 ghost use Rattle.run_formats.specs.Cells.{count_in, run_in, Passes, BeginsWithRuns};
 
 use crate::cells::{HEAD_LEN, block_size, cells_of, run_count_in, times_of, value_of};
@@ -56,9 +56,9 @@ fn goes_on(before: Option<u64>, value: u64) -> bool
     }
 }
 
-/// The value at a place of the block that these bytes spell. It goes over the runs before the value and writes nothing.
+/// The value at a place of the block that these bytes encode. It goes over the runs before the value and writes nothing.
 pub fn pick(bytes: &[u8], place: usize) -> u64
-    requires spelled { (values : List ℕ) × IsRunsBlock values bytes.now }
+    requires encoded { (values : List ℕ) × IsRunsBlock values bytes.now }
     requires within { place < block_len }
     ensures { (values : List ℕ) → IsRunsBlock values bytes.now → result ≡ slice_index values place }
 {

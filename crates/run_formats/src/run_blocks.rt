@@ -1,7 +1,7 @@
 //! A block as its runs.
 
-ghost use Rattle.definitions.specs.Runs.{IsRunsBlock, run_count};
-ghost use Rattle.definitions.proofs.RunLaws.{IsRunsBlock-octets, IsRunsBlock-one, IsRunsBlock-front, IsRunsBlock-sized};
+ghost use Rattle.definitions_blocks.specs.Runs.{IsRunsBlock, run_count};
+ghost use Rattle.definitions_blocks.proofs.RunLaws.{IsRunsBlock-octets, IsRunsBlock-one, IsRunsBlock-front, IsRunsBlock-sized};
 
 use crate::cells::{HEAD_LEN, block_size, cells_of};
 use crate::reading::{found_count, write_values};
@@ -17,7 +17,7 @@ impl Packing for Runs {
 
     type Head = u16;
 
-    ghost spells = { λ _ values bytes. IsRunsBlock values bytes };
+    ghost encodes = { λ _ values bytes. IsRunsBlock values bytes };
 
     ghost block_head = { λ _ values. run_count values };
 

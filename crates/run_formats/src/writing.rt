@@ -1,8 +1,8 @@
 //! Writing a block's runs in one pass over its values.
 
 ghost use Rattle.std.specs.Prelude.{◌≡◌, ◌+◌, ◌*◌, ◌<◌, ◌≤◌, length, flat_map};
-ghost use Rattle.definitions.specs.Runs.{run_bytes, run_count, two_bytes};
-ghost use Rattle.definitions.proofs.RunLaws.{runs_of};
+ghost use Rattle.definitions_blocks.specs.Runs.{run_bytes, run_count, two_bytes};
+ghost use Rattle.definitions_blocks.proofs.RunLaws.{runs_of};
 
 use crate::cells::CELL_LEN;
 
@@ -22,7 +22,7 @@ pub fn count_runs(values: &[u64]) -> u16
 }
 
 /// Writes how many runs there are.
-#[tactic(auto, unfolding(definitions::specs::Runs::two_bytes))]
+#[tactic(auto, unfolding(definitions_blocks::specs::Runs::two_bytes))]
 pub fn put_count(runs: u16, into: &mut [u8])
     requires { length into.old ≡ 2 }
     ensures { into.new ≡ two_bytes runs }

@@ -4,7 +4,7 @@ use Rattle.std.specs.List.Sorted.{IsStrictlyIncreasing}
 use Rattle.std.proofs.lemmas.List.{append_assoc, drop-drop, length-drop, length-take-le, take-append-drop}
 use Rattle.std.proofs.lemmas.Bool.Decides.{nat_tests}
 use Rattle.std.proofs.lemmas.List.Elements.{All-cons, All-weaker}
-use Rattle.definitions.specs.Operators.{is_within, positions_from, positions_in}
+use Rattle.definitions_operators.specs.Operators.{is_within, positions_from, positions_in}
 
 -- each row is at least `first` and below `end`, and the rows rise
 pub record RiseBetween (first end : ℕ) (rows : List ℕ) : Type 0 where

@@ -1,7 +1,7 @@
 //! Projections: the values at the rows of a position list.
 
 ghost use Rattle.std.specs.Prelude.{◌≡◌, ◌<◌, All, length, IfOk};
-ghost use Rattle.definitions.specs.Operators.{values_at};
+ghost use Rattle.definitions_operators.specs.Operators.{values_at};
 
 use std::alloc::{AllocError, Global};
 use stream_core::List;

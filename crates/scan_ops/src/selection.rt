@@ -5,7 +5,7 @@
 
 ghost use Rattle.std.specs.Prelude.{◌≡◌, ◌+◌, ◌^◌, ◌<◌, ◌≤◌, ◌++◌, All, take, length, IfOk, OnOk};
 ghost use Rattle.std.specs.List.Sorted.{IsStrictlyIncreasing};
-ghost use Rattle.definitions.specs.Operators.{is_within, positions_from, positions_in};
+ghost use Rattle.definitions_operators.specs.Operators.{is_within, positions_from, positions_in};
 
 use std::alloc::{AllocError, Global};
 use stream_core::List;

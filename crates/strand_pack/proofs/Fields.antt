@@ -4,7 +4,7 @@ use Rattle.std.specs.Int.{bit_at}
 use Rattle.std.proofs.lemmas.Bool.{cases_lt}
 use Rattle.std.proofs.lemmas.Nat.{pow_pos, mod_below, and_mask, or_comm, or_shifted, shl_whole}
 use Rattle.std.proofs.lemmas.Nat.Bits.{bit_at-zero, bit_at_or, bit_at_above, bit_at_cat_low, bit_at_cat_high, same_from_bits_below, ones_shr}
-use Rattle.definitions.proofs.BitLaws.{bit_at_shr, bit_at_low}
+use Rattle.definitions_blocks.proofs.BitLaws.{bit_at_shr, bit_at_low}
 use Rattle.strand_pack.specs.Words.{field}
 
 pub field_lt : (low high offset width : ℕ) → field low high offset width < 2 ^ width

@@ -4,9 +4,9 @@ use Rattle.std.specs.Int.{bit_at}
 use Rattle.std.proofs.Math.Nat.{pow-le-pow_right}
 use Rattle.std.proofs.lemmas.Bool.{cases_lt}
 use Rattle.std.proofs.lemmas.Nat.{shr_below, mul-add-lt}
-use Rattle.definitions.specs.Packed.{strand_bit, AreBelow, IsPacked}
-use Rattle.definitions.proofs.BitLaws.{total, total-zero, total_more, total_bit, total_same, Below}
-use Rattle.strand_pack.specs.Words.{word_of, AreSpelled}
+use Rattle.definitions_blocks.specs.Packed.{strand_bit, AreBelow, IsPacked}
+use Rattle.definitions_blocks.proofs.BitLaws.{total, total-zero, total_more, total_bit, total_same, Below}
+use Rattle.strand_pack.specs.Words.{word_of, AreEncoded}
 use Rattle.strand_pack.proofs.WordBits.{word_of-lt, word_of-bit, word_of-same}
 use Rattle.strand_pack.proofs.StrandTotals.{or_added, joined_lt, row_inside, row_full}
 
@@ -136,7 +136,7 @@ AreBegun-at width first n row line bits line' bits' full into words start into' 
     (subst (λ i. AreBegun width first n row line bits full i words' start) (sym bytes)
     (subst (λ w. AreBegun width first n row line bits full into w start) (sym lanes) begun)))
 
--- a strand whose words are the number that its values make spells them
+-- a strand whose words are the number that its values make encodes them
 one_strand : (width rows strand row b : ℕ) (values bytes : List ℕ) → ((k : ℕ) → get_or bytes k 0 < 2 ^ 8) → Below width (value_of values strand) rows
     → total 64 (word_in bytes strand) width ≡ total width (value_of values strand) rows → rows ≡ 64 → row < rows → b < width
     → bit_at (value_of values strand row) b ≡ strand_bit bytes strand (row * width + b)
@@ -152,9 +152,9 @@ one_strand width rows strand row b values bytes octets small same all within low
     ∙ total_bit 64 (word_in bytes strand) width (k / 64) (k % 64) (λ r below. word_of-lt bytes (r * 16 + strand) octets) word (omega arith)
     ∙ word_of-bit bytes (k / 64 * 16 + strand) (k % 64) octets (omega arith)
 
-pub AreSpelled-from_begun : (width first n row line bits : ℕ) (full into words start : List ℕ) → AreBegun width first n row line bits full into words start → row ≡ 64 → first + n ≤ 16
-    → length full ≡ 1024 → AreBelow width full → ((k : ℕ) → get_or into k 0 < 2 ^ 8) → AreSpelled width first (first + n) full into
-AreSpelled-from_begun width first n row line bits full into words start begun all fits whole small octets = record {
+pub AreEncoded-from_begun : (width first n row line bits : ℕ) (full into words start : List ℕ) → AreBegun width first n row line bits full into words start → row ≡ 64 → first + n ≤ 16
+    → length full ≡ 1024 → AreBelow width full → ((k : ℕ) → get_or into k 0 < 2 ^ 8) → AreEncoded width first (first + n) full into
+AreEncoded-from_begun width first n row line bits full into words start begun all fits whole small octets = record {
   bits = λ strand r b from below rows low.
       let lane = strand - first in
       let within : lane < n = omega arith in
@@ -168,15 +168,15 @@ AreSpelled-from_begun width first n row line bits full into words start begun al
       let no_bits : get_or words lane 0 ≡ 0 = omega arith in
       let nothing : get_or words lane 0 * 2 ^ (line * 64) ≡ 0 = ap (λ v. v * 2 ^ (line * 64)) no_bits ∙ omega arith in
       let same : total 64 (word_in into (first + lane)) line ≡ total width (value_of full (first + lane)) row = omega (arith, begun.same lane within) in
-      let spelled : total 64 (word_in into strand) width ≡ total width (value_of full strand) row =
+      let encoded : total 64 (word_in into strand) width ≡ total width (value_of full strand) row =
       ap (λ w. total 64 (word_in into strand) w) (sym lines) ∙ ap (λ s. total 64 (word_in into s) line) (sym here) ∙ same ∙ ap (λ s. total width (value_of full s) row) here in
-      one_strand width row strand r b full into octets (λ q before. small (q * 16 + strand) (omega arith)) spelled all (omega arith) low;
+      one_strand width row strand r b full into octets (λ q before. small (q * 16 + strand) (omega arith)) encoded all (omega arith) low;
 }
 
--- a block whose 16 strands are spelled is packed
-pub IsPacked-from_spelled : (width past : ℕ) (values bytes : List ℕ) → past ≡ 16 → width ≤ 64 → length values ≡ 1024 → length bytes ≡ 128 * width → ((k : ℕ) → get_or bytes k 0 < 2 ^ 8) → AreBelow width values
-    → AreSpelled width 0 past values bytes → IsPacked width values bytes
-IsPacked-from_spelled width past values bytes all narrow count size octets small spelled = record {
+-- a block whose 16 strands are encoded is packed
+pub IsPacked-from_encoded : (width past : ℕ) (values bytes : List ℕ) → past ≡ 16 → width ≤ 64 → length values ≡ 1024 → length bytes ≡ 128 * width → ((k : ℕ) → get_or bytes k 0 < 2 ^ 8) → AreBelow width values
+    → AreEncoded width 0 past values bytes → IsPacked width values bytes
+IsPacked-from_encoded width past values bytes all narrow count size octets small encoded = record {
   narrow = narrow;
   count = count;
   size = size;
@@ -184,13 +184,13 @@ IsPacked-from_spelled width past values bytes all narrow count size octets small
   small = small;
   bits = λ i b within low.
       let place : i ≡ i / 16 * 16 + i % 16 = omega arith in
-      ap (λ j. bit_at (get_or values j 0) b) place ∙ spelled.bits (i % 16) (i / 16) b (omega arith) (omega arith) (omega arith) low;
+      ap (λ j. bit_at (get_or values j 0) b) place ∙ encoded.bits (i % 16) (i / 16) b (omega arith) (omega arith) (omega arith) low;
 }
 
--- more strands are spelled: the earlier ones are left alone
-pub AreSpelled-more : (width first n : ℕ) (values bytes after : List ℕ) → first + n ≤ 16 → AreSpelled width 0 first values bytes → AreSpelled width first (first + n) values after
-    → ((k : ℕ) → IsBeside first n k → get_or after k 0 ≡ get_or bytes k 0) → AreSpelled width 0 (first + n) values after
-AreSpelled-more width first n values bytes after fits old new same = record {
+-- more strands are encoded: the earlier ones are left alone
+pub AreEncoded-more : (width first n : ℕ) (values bytes after : List ℕ) → first + n ≤ 16 → AreEncoded width 0 first values bytes → AreEncoded width first (first + n) values after
+    → ((k : ℕ) → IsBeside first n k → get_or after k 0 ≡ get_or bytes k 0) → AreEncoded width 0 (first + n) values after
+AreEncoded-more width first n values bytes after fits old new same = record {
   bits = λ strand row b from below rows low.
       elim (cases_lt strand first) [
         | inl earlier ↦

@@ -4,7 +4,7 @@ use Rattle.std.specs.Int.{leading_zeros, w64}
 use Rattle.std.proofs.Math.Nat.{pow-suc, pow-le-pow_right}
 use Rattle.std.proofs.lemmas.Bool.{cases_lt}
 use Rattle.std.proofs.lemmas.Nat.{leading_length}
-use Rattle.definitions.specs.Packed.{AreBelow, IsWidth}
+use Rattle.definitions_blocks.specs.Packed.{AreBelow, IsWidth}
 
 -- a number whose half is below a power is below the next
 half_below : (m v all : ℕ) → 2 ^ m ≤ 2 * all + 1 → all < 2 ^ v → m ≤ v

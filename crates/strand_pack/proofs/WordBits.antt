@@ -6,8 +6,8 @@ use Rattle.std.specs.Simd.{first_chunks}
 use Rattle.std.proofs.lemmas.List.{get_or-take, get_or-drop, drop-drop}
 use Rattle.std.proofs.lemmas.Nat.{from_le_bytes-to_le_bytes_8}
 use Rattle.std.proofs.lemmas.Slice.{between-put_mid}
-use Rattle.definitions.specs.Packed.{word_bit}
-use Rattle.definitions.proofs.BitLaws.{total, total_lt, total_bit, total_same}
+use Rattle.definitions_blocks.specs.Packed.{word_bit}
+use Rattle.definitions_blocks.proofs.BitLaws.{total, total_lt, total_bit, total_same}
 use Rattle.strand_pack.specs.Words.{word_of}
 
 -- byte k of word j
@@ -69,9 +69,9 @@ word_of-same a b j same = word_total a j ∙ total_same 8 (byte_of a j) (byte_of
 pub word_written : (bytes part : List ℕ) (word place e : ℕ) → word < 2 ^ 64 → e ≡ 8 * place + 8 → e ≤ length bytes → part ≡ to_le_bytes w64 word
     → word_of (put_mid (8 * place) (e - 8 * place) bytes part) place ≡ word
 unfolding word_of
-word_written bytes part word place e fits ends inside spelled =
-    let long : length part ≡ 8 = ap length spelled in
+word_written bytes part word place e fits ends inside encoded =
+    let long : length part ≡ 8 = ap length encoded in
     let count : e - 8 * place ≡ 8 = omega arith in
     let cut : take (e - 8 * place) (drop (8 * place) (put_mid (8 * place) (e - 8 * place) bytes part)) ≡ part = between-put_mid (8 * place) (e - 8 * place) bytes part e (omega arith) (long ∙ sym count) in
     ap (λ n. from_le_bytes w64 (take n (drop (8 * place) (put_mid (8 * place) (e - 8 * place) bytes part)))) (sym count)
-    ∙ ap (from_le_bytes w64) (cut ∙ spelled) ∙ from_le_bytes-to_le_bytes_8 word fits
+    ∙ ap (from_le_bytes w64) (cut ∙ encoded) ∙ from_le_bytes-to_le_bytes_8 word fits

@@ -1,7 +1,7 @@
 -- Words of a packed block, as the code reads and writes them.
 use Rattle.std.specs.Prelude.{◌≡◌, ℕ, ◌+◌, ◌*◌, ◌/◌, ◌%◌, ◌^◌, ◌<◌, ◌≤◌, List, take, drop, slice_index}
 use Rattle.std.specs.Int.{bit_at, from_le_bytes, w64}
-use Rattle.definitions.specs.Packed.{strand_bit}
+use Rattle.definitions_blocks.specs.Packed.{strand_bit}
 
 -- word j: eight bytes, the little end first
 unfoldable pub word_of : List ℕ → ℕ → ℕ
@@ -17,6 +17,6 @@ value_in bytes width row strand =
     let start = row * width in
     field (word_of bytes (start / 64 * 16 + strand)) (word_of bytes ((start / 64 + 1) * 16 + strand)) (start % 64) width
 
--- the strands from the first on, up to the last and without it, spell their values
-pub record AreSpelled (width first last : ℕ) (values bytes : List ℕ) : Type 0 where
+-- the strands from the first on, up to the last and without it, encode their values
+pub record AreEncoded (width first last : ℕ) (values bytes : List ℕ) : Type 0 where
   pub bits : (strand row b : ℕ) → first ≤ strand → strand < last → row < 64 → b < width → bit_at (slice_index values (row * 16 + strand)) b ≡ strand_bit bytes strand (row * width + b)

@@ -4,9 +4,9 @@
 //! values is put above the bits that their words have, and full words are written.
 
 ghost use Rattle.std.specs.Prelude.{◌≡◌, ℕ, ◌+◌, ◌-◌, ◌*◌, ◌/◌, ◌%◌, ◌^◌, ◌<◌, ◌≤◌, ◌⊎◌, length, slice_index, bit_or};
-ghost use Rattle.definitions.specs.Blocks.{block_len};
-ghost use Rattle.definitions.specs.Packed.{AreBelow, IsPacked};
-ghost use Rattle.strand_pack.specs.Words.{AreSpelled};
+ghost use Rattle.definitions_blocks.specs.Blocks.{block_len};
+ghost use Rattle.definitions_blocks.specs.Packed.{AreBelow, IsPacked};
+ghost use Rattle.strand_pack.specs.Words.{AreEncoded};
 
 use crate::words::{ROWS, STRANDS, bytes_fit, put_words};
 use block_core::Block;
@@ -64,7 +64,7 @@ fn pack_strands<const L: usize>(full: &[u64], width: u32, first: usize, into: &m
     requires narrow { width ≤ 64 }
     requires small { AreBelow width full.now }
     requires size { length into.old ≡ 128 * width }
-    ensures spelled { AreSpelled width first (first + L) full.now into.new }
+    ensures encoded { AreEncoded width first (first + L) full.now into.new }
     ensures beside { (k : ℕ) → (k / 8 % 16 < first) ⊎ (first + L ≤ k / 8 % 16) → slice_index into.new k ≡ slice_index into.old k }
 {
     let mut words = Lanes::<L>::splat(0);

@@ -1,8 +1,8 @@
 //! One value of a packed block.
 
 ghost use Rattle.std.specs.Prelude.{◌≡◌, ℕ, ◌*◌, ◌<◌, ◌≤◌, List, length, slice_index};
-ghost use Rattle.definitions.specs.Blocks.{block_len};
-ghost use Rattle.definitions.specs.Packed.{IsPacked};
+ghost use Rattle.definitions_blocks.specs.Blocks.{block_len};
+ghost use Rattle.definitions_blocks.specs.Packed.{IsPacked};
 
 use crate::words::{STRANDS, WORD_BITS, word_at};
 

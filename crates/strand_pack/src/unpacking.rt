@@ -4,8 +4,8 @@
 //! words, from one line of 16 words or from two.
 
 ghost use Rattle.std.specs.Prelude.{◌≡◌, ℕ, ◌+◌, ◌-◌, ◌*◌, ◌/◌, ◌%◌, ◌^◌, ◌<◌, ◌≤◌, length, slice_index, bit_and, bit_or};
-ghost use Rattle.definitions.specs.Blocks.{block_len};
-ghost use Rattle.definitions.specs.Packed.{IsPacked};
+ghost use Rattle.definitions_blocks.specs.Blocks.{block_len};
+ghost use Rattle.definitions_blocks.specs.Packed.{IsPacked};
 ghost use Rattle.strand_pack.specs.Words.{word_of, field, value_in};
 
 use crate::words::{ROWS, STRANDS, WORD_BITS, words_at};

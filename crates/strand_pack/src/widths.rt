@@ -1,7 +1,7 @@
 //! The width of a block.
 
 ghost use Rattle.std.specs.Prelude.{◌≤◌};
-ghost use Rattle.definitions.specs.Packed.{IsWidth};
+ghost use Rattle.definitions_blocks.specs.Packed.{IsWidth};
 
 use block_core::Block;
 

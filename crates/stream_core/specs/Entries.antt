@@ -1,7 +1,7 @@
 -- The files of a store in memory.
 use Rattle.std.specs.Prelude.{◌≡◌, ℕ, List, option_map, vec_items}
 use Rattle.std.specs.BTreeMap.{get_by_text}
-use Rattle.definitions.specs.Databases.{Files}
+use Rattle.stream_core.specs.Files.{Files}
 use Rattle.stream_core.specs.declared.memory.MemStore.{MemStore}
 
 abbrev pub files_of : MemStore → Files

@@ -1,7 +1,7 @@
 -- What contracts see of the forms in memory.
 use Rattle.std.specs.Prelude.{ℕ, Bool, ◌||◌, ◌&&◌, List, length, nat_eq, nat_lt, nat_le, if◌then◌else◌}
 use Rattle.std.specs.List.{list_any}
-use Rattle.definitions.specs.Steps.{next_count}
+use Rattle.stream_core.specs.Faults.{next_count}
 
 -- whether the call of this number is to fail
 abbrev pub is_failing : List ℕ → ℕ → Bool

@@ -1,6 +1,6 @@
 -- What a load and a save say of told files.
 use Rattle.std.specs.Prelude.{◌≡◌, ◌≢◌, ℕ, ◌<◌, List, length, Option, Some, None, Result, Ok, Err}
-use Rattle.definitions.specs.Databases.{Files, Holds}
+use Rattle.stream_core.specs.Files.{Files, Holds}
 use Rattle.stream_core.specs.declared.storing.LoadError.{LoadError}
 use Rattle.stream_core.specs.declared.storing.LoadError.TheVariants as load
 use Rattle.stream_core.specs.declared.storing.SaveError.{SaveError}

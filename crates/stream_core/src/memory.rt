@@ -3,8 +3,7 @@
 ghost use Rattle.std.specs.Prelude.{◌≡◌, ℕ, ◌+◌, ◌-◌, ◌^◌, ◌<◌, ◌≤◌, ◌⊎◌, min, [], List as Items, length, option_copied, Some, None, is_some, is_err, IfOk, OnOk, OnErr, IsErrOf, true, ◌↔◌, if◌then◌else◌};
 ghost use Rattle.std.specs.Io.{ReadsAtMost, WritesAtMost};
 ghost use Rattle.std.specs.Io.KnownBytes.{ReadConsumes, WriteAppends};
-ghost use Rattle.definitions.specs.Faults.{Rose, HasCause};
-ghost use Rattle.definitions.specs.Steps.{next_count};
+ghost use Rattle.stream_core.specs.Faults.{Rose, HasCause, next_count};
 ghost use Rattle.stream_core.specs.Memory.{is_failing, cannot_write, faults_after};
 ghost use Rattle.stream_core.specs.Stores.{Replaces, IsLoaded, IsSaved};
 

@@ -1,7 +1,7 @@
 //! Short texts of fixed capacity.
 
 ghost use Rattle.std.specs.Prelude.{◌≡◌, ◌≤◌, ◌↔◌, length, IsSome, IfSome};
-ghost use Rattle.definitions.specs.Names.{max_name, max_file_name};
+ghost use Rattle.stream_core.specs.Names.{max_name, max_file_name};
 
 use arrayvec::ArrayString;
 use std::marker::Model;

@@ -3,7 +3,7 @@
 ghost use Rattle.std.specs.Prelude.{◌≡◌, ℕ, ◌+◌, ◌^◌, ◌<◌, ◌≤◌, List, length, Option, is_some, IsErrOf, OnErr, IfOk};
 ghost use Rattle.std.specs.Io.{ReadsAtMost};
 ghost use Rattle.std.specs.Io.KnownBytes.{ReadConsumes, Consumes, IsAtEnd};
-ghost use Rattle.definitions.specs.Faults.{Rose, HasCause};
+ghost use Rattle.stream_core.specs.Faults.{Rose, HasCause};
 ghost use Rattle.stream_core.specs.Calls.{ConsumesSome};
 
 use crate::{Bytes, Failed, List};

@@ -1,8 +1,8 @@
 //! Stores of files.
 
 ghost use Rattle.std.specs.Prelude.{◌≡◌, ℕ, ◌^◌, ◌<◌, ◌≤◌, Option, IsErrOf, IfOk};
-ghost use Rattle.definitions.specs.Databases.{Files};
-ghost use Rattle.definitions.specs.Faults.{Rose};
+ghost use Rattle.stream_core.specs.Files.{Files};
+ghost use Rattle.stream_core.specs.Faults.{Rose};
 ghost use Rattle.stream_core.specs.Stores.{IsLoaded, IsSaved};
 
 use crate::Bytes;

@@ -3,7 +3,7 @@
 ghost use Rattle.std.specs.Prelude.{◌≡◌, ℕ, ◌^◌, ◌<◌, ◌≤◌, List, length, Option, is_some, IfOk, OnOk, OnErr};
 ghost use Rattle.std.specs.Io.{WritesAtMost};
 ghost use Rattle.std.specs.Io.KnownBytes.{WriteAppends, Appends};
-ghost use Rattle.definitions.specs.Faults.{HasCause};
+ghost use Rattle.stream_core.specs.Faults.{HasCause};
 ghost use Rattle.stream_core.specs.Calls.{AppendsProperPrefix};
 
 use crate::Failed;

@@ -1,6 +1,6 @@
 use Rattle.std.proofs.Common.{◌+◌, ◌*◌, ◌/◌, [], length, ap, ◌∙◌, arith}
 use Rattle.std.specs.Int.{bit_at}
-use Rattle.definitions.specs.Packed.{word_bit}
+use Rattle.definitions_blocks.specs.Packed.{word_bit}
 use Rattle.strand_pack.proofs.WordBits.{word_read, word_of-bit}
 use Rattle.block_formats.proofs.HighestBits.{bit_at-none, line_more}
 use Rattle.block_formats.proofs.widths.bits_of_line.Goals as goal

@@ -1,7 +1,7 @@
 -- A bit is unset where no word before the strand has it.
 use Rattle.std.proofs.Common.{◌≡◌, ◌↔◌, ℕ, ◌+◌, ◌*◌, ◌<◌}
 use Rattle.std.specs.Int.{bit_at}
-use Rattle.definitions.specs.Packed.{word_bit}
+use Rattle.definitions_blocks.specs.Packed.{word_bit}
 use Rattle.block_formats.proofs.widths.bits_of_line.Given as goal
 
 abbrev pub invariant-loop-strand : goal.invariant-loop-strand

@@ -1,6 +1,6 @@
 -- No value of the rows before this one has the highest bit.
 use Rattle.std.proofs.Common.{◌≡◌, ℕ, ◌+◌, ◌-◌, ◌*◌, ◌<◌}
-use Rattle.definitions.specs.Packed.{strand_bit}
+use Rattle.definitions_blocks.specs.Packed.{strand_bit}
 use Rattle.block_formats.proofs.widths.has_highest_bit.Given as goal
 
 abbrev pub invariant-loop-row : goal.invariant-loop-row

@@ -1,5 +1,5 @@
 use Rattle.std.proofs.Common.{drop, ◌++◌, ap, ◌∙◌}
-use Rattle.definitions.specs.Columns.{word_bytes}
+use Rattle.definitions_blocks.specs.Words.{word_bytes}
 use Rattle.cascade_formats.proofs.cascades.put_word.Goals as goal
 
 pub returns : goal.returns

@@ -1,8 +1,8 @@
 use Rattle.std.proofs.Common.{take, ap, ◌∙◌}
 use Rattle.std.specs.Int.{from_le_bytes, w64}
 use Rattle.std.proofs.lemmas.List.{length-take-le}
-use Rattle.definitions.specs.Columns.{word_bytes}
-use Rattle.definitions.proofs.WordLaws.{word_bytes-from_le_bytes}
+use Rattle.definitions_blocks.specs.Words.{word_bytes}
+use Rattle.definitions_blocks.proofs.WordLaws.{word_bytes-from_le_bytes}
 use Rattle.cascade_formats.specs.CascadeLaws.{octets_take}
 use Rattle.cascade_formats.proofs.cascades.word_of.Goals as goal
 

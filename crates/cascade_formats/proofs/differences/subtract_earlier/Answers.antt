@@ -1,5 +1,5 @@
 use Rattle.std.proofs.Common.{arith}
-use Rattle.definitions.proofs.DifferenceLaws.{gapped_is}
+use Rattle.definitions_blocks.proofs.DifferenceLaws.{gapped_is}
 use Rattle.cascade_formats.proofs.differences.subtract_earlier.Goals as goal
 
 pub returns-clause-differences : goal.returns-clause-differences

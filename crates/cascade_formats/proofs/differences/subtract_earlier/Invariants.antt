@@ -1,6 +1,6 @@
 -- The differences so far are to the first value, and then to the value that many places earlier.
 use Rattle.std.proofs.Common.{◌≡◌, ℕ, ◌+◌, ◌<◌, get_or}
-use Rattle.definitions.specs.Differences.{difference}
+use Rattle.definitions_blocks.specs.Differences.{difference}
 use Rattle.cascade_formats.proofs.differences.subtract_earlier.Given as goal
 
 abbrev pub invariant-loop-place : goal.invariant-loop-place

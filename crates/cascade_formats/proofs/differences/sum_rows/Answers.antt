@@ -1,6 +1,6 @@
 use Rattle.std.proofs.Common.{◌≡◌, ◌+◌, ◌*◌, ◌/◌, ◌≤◌, arith, ◌∙◌}
 use Rattle.std.proofs.Math.Nat.{mul-le-mul_right}
-use Rattle.definitions.proofs.DifferenceLaws.{sums_of-places}
+use Rattle.definitions_blocks.proofs.DifferenceLaws.{sums_of-places}
 use Rattle.cascade_formats.proofs.Sums.{more_rows}
 use Rattle.cascade_formats.proofs.differences.sum_rows.Goals as goal
 

@@ -1,7 +1,7 @@
 -- The least of the rest and of the least so far is the least; no value so far is above the greatest, which is below what all are below.
 use Rattle.std.proofs.Common.{◌≡◌, ℕ, ◌<◌, ◌≤◌, min, drop, length, get_or}
 use Rattle.std.specs.Prelude.{fold}
-use Rattle.definitions.specs.Differences.{least_of}
+use Rattle.definitions_blocks.specs.Differences.{least_of}
 use Rattle.cascade_formats.proofs.references.extremes.Given as goal
 
 abbrev pub invariant-loop-value : goal.invariant-loop-value

@@ -1,4 +1,4 @@
-use Rattle.definitions.specs.ColumnFiles as columns
+use Rattle.definitions_blocks.specs.Formats as columns
 use Rattle.column_core.proofs.BlockLemmas.{sized}
 use Rattle.column_core.proofs.blocks.append_block.Goals as goal
 

@@ -1,12 +1,13 @@
 use Rattle.std.proofs.Common.{◌≡◌, ◌+◌, ◌-◌, ◌*◌, ◌/◌, ◌++◌, ℕ, List, length, take, drop, sym, ap, ap₂, ◌∙◌, subst, arith}
 use Rattle.std.proofs.lemmas.List.{take-append-drop, take_all, length-drop}
-use Rattle.definitions.specs.Blocks.{block_len}
-use Rattle.definitions.specs.ColumnFiles.{FitsFormat, static_width_of}
+use Rattle.definitions_blocks.specs.Blocks.{block_len}
+use Rattle.definitions_blocks.specs.Formats.{FitsFormat}
+use Rattle.definitions_columns.specs.ColumnFiles.{static_width_of}
 use Rattle.block_core.specs.declared.formats.Format.{Format}
 use Rattle.block_core.specs.Formats.{format_of}
-use Rattle.column_core.specs.Columns.{Encoding, encoding, reserve, shape}
+use Rattle.column_core.specs.Columns.{Encoding, encoding_of, reserve, shape}
 use Rattle.column_core.proofs.BuilderLemmas.{static_width_of-whole, block_fits}
-use Rattle.definitions.proofs.PieceLaws.{take_blocks}
+use Rattle.definitions_columns.proofs.PieceLaws.{take_blocks}
 use Rattle.column_core.proofs.builders.encode_list.Goals as goal
 
 pub push_block-requires-clause-fits : goal.push_block-requires-clause-fits
@@ -29,20 +30,20 @@ loop-number-preserved c =
     let block : c.fill_from.new.block ≡ take block_len (drop at values) = c.fill_from.ensures.same ∙ ap (λ n. take n (drop at values)) size in
     let more : at + block_len ≡ (c.loop-number.number + 1) * block_len = omega arith in
     record {
-      encoded = c.in_ok-push_block.ensures.ok ∙ ap (λ (e : Encoding). encoding e.format e.width e.reserve (e.values ++ c.fill_from.new.block)) c.loop-number.invariant.encoded
-          ∙ ap (encoding c.args.format c.least_width-width.result (reserve 0 0)) (ap (λ l. take at values ++ l) block ∙ take_blocks at block_len values ∙ ap (λ n. take n values) more);
+      encoded = c.in_ok-push_block.ensures.ok ∙ ap (λ (e : Encoding). encoding_of e.format e.width e.reserve (e.values ++ c.fill_from.new.block)) c.loop-number.invariant.encoded
+          ∙ ap (encoding_of c.args.format c.least_width-width.result (reserve 0 0)) (ap (λ l. take at values ++ l) block ∙ take_blocks at block_len values ∙ ap (λ n. take n values) more);
       full = ap length block ∙ ap length (sym block) ∙ omega (arith, c.fill_from.ensures.full.whole);
     }
 
 -- what is encoded at the end
-ended : (format : Format) (width number : ℕ) (values : List ℕ) (before result : Encoding) → before ≡ encoding format width (reserve 0 0) (take (number * block_len) values) → number ≡ length values / block_len
-    → result ≡ encoding before.format before.width before.reserve (before.values ++ take (length values - length values / 1024 * 1024) (drop (length values / 1024 * 1024) values)) → result ≡ encoding format width (reserve 0 0) values
+ended : (format : Format) (width number : ℕ) (values : List ℕ) (before result : Encoding) → before ≡ encoding_of format width (reserve 0 0) (take (number * block_len) values) → number ≡ length values / block_len
+    → result ≡ encoding_of before.format before.width before.reserve (before.values ++ take (length values - length values / 1024 * 1024) (drop (length values / 1024 * 1024) values)) → result ≡ encoding_of format width (reserve 0 0) values
 ended format width number values before result looped all is =
     let at = length values / 1024 * 1024 in
     let rest : take (length values - at) (drop at values) ≡ drop at values = take_all (length values - at) (drop at values) (omega (arith, length-drop at values)) in
     let front : take (number * block_len) values ≡ take at values = ap (λ n. take (n * block_len) values) all in
-    is ∙ ap (λ (e : Encoding). encoding e.format e.width e.reserve (e.values ++ take (length values - at) (drop at values))) looped
-    ∙ ap (encoding format width (reserve 0 0)) (ap₂ (λ (a : List ℕ) (b : List ℕ). a ++ b) front rest ∙ take-append-drop at values)
+    is ∙ ap (λ (e : Encoding). encoding_of e.format e.width e.reserve (e.values ++ take (length values - at) (drop at values))) looped
+    ∙ ap (encoding_of format width (reserve 0 0)) (ap₂ (λ (a : List ℕ) (b : List ℕ). a ++ b) front rest ∙ take-append-drop at values)
 
 pub from_encoded-requires : goal.from_encoded-requires
 from_encoded-requires c =

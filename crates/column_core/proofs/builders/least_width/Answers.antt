@@ -1,9 +1,9 @@
 use Rattle.std.proofs.Common.{◌≡◌, ◌*◌, ◌/◌, length, sym, ap, ◌∙◌, arith}
 use Rattle.std.proofs.lemmas.List.{take_all}
-use Rattle.definitions.specs.Blocks.{block_len}
-use Rattle.definitions.specs.Spellings.{width_of}
-use Rattle.definitions.specs.ColumnFiles.{whole_blocks}
-use Rattle.definitions.proofs.SpellingLaws.{width_of-is}
+use Rattle.definitions_blocks.specs.Blocks.{block_len}
+use Rattle.definitions_blocks.specs.Encodings.{width_of}
+use Rattle.definitions_columns.specs.ColumnFiles.{whole_blocks}
+use Rattle.definitions_blocks.proofs.EncodingLaws.{width_of-is}
 use Rattle.column_core.proofs.builders.least_width.Goals as goal
 
 pub returns-in-Static-clause-width : goal.returns-in-Static-clause-width

@@ -1,8 +1,8 @@
 use Rattle.std.proofs.Common.{get_or, refl, sym, arith, subst}
-use Rattle.definitions.specs.ColumnFiles.{BlockOf}
-use Rattle.definitions.specs.Blocks.{block_at}
-use Rattle.definitions.proofs.PieceLaws.{counts}
-use Rattle.definitions.proofs.ColumnFileLaws.{SameColumn, IsEncoded-one}
+use Rattle.definitions_blocks.specs.Formats.{BlockOf}
+use Rattle.definitions_blocks.specs.Blocks.{block_at}
+use Rattle.definitions_columns.proofs.PieceLaws.{counts}
+use Rattle.definitions_columns.proofs.ColumnFileLaws.{SameColumn, IsEncoded-one}
 use Rattle.column_core.proofs.EncodedLemmas.{BlockSpan, block_span}
 use Rattle.column_core.proofs.encodings.block_part.Goals as goal
 use Rattle.column_core.proofs.encodings.block_part.Goals.{then-block-starts, else-block-starts}
@@ -40,4 +40,4 @@ returns c = λ format width values is.
     is (rw same.lists at c.requires.4) (rw same.lists at c.requires.5) refl
     (λ more. elim c.if-block-starts.branch [ then-block-starts w ↦ w.end-is | else-block-starts w ↦ absurd (omega arith) ])
     (λ past. elim c.if-block-starts.branch [ then-block-starts w ↦ absurd (omega arith) | else-block-starts w ↦ w.end-is ]) in
-    subst (BlockOf format width (block_at values c.args.block)) (sym c.part.ensures) at.spelled
+    subst (BlockOf format width (block_at values c.args.block)) (sym c.part.ensures) at.encoded

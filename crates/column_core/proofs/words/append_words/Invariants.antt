@@ -1,7 +1,7 @@
 -- What was appended, and the words of what is left, are the words of all values; and there is room for what is left.
 use Rattle.std.proofs.Common.{◌≡◌, ◌++◌, ◌+◌, ◌-◌, ◌*◌, ◌≤◌, length, drop, vec_len}
 use Rattle.std.specs.Vec.{vec_capacity}
-use Rattle.definitions.specs.Columns.{words_of}
+use Rattle.definitions_blocks.specs.Words.{words_of}
 use Rattle.column_core.proofs.words.append_words.Given as goal
 
 abbrev pub invariant-loop-value : goal.invariant-loop-value

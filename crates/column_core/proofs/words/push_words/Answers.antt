@@ -1,16 +1,16 @@
 use Rattle.std.proofs.Common.{◌<◌, ◌∷◌, ◌++◌, [], length, ap, ap₂, sym, arith, ◌∙◌}
 use Rattle.std.proofs.lemmas.List.{length-take, take_more, take_all}
-use Rattle.definitions.proofs.SpellingLaws.{length-words_of}
+use Rattle.definitions_blocks.proofs.EncodingLaws.{length-words_of}
 use Rattle.column_core.proofs.words.push_words.Goals as goal
 
 pub word_at-requires : goal.word_at-requires
 word_at-requires c =
-    let of = c.requires.spelled in
+    let of = c.requires.encoded in
     (of.0, of.1, of.2, omega (arith, ap length of.2, length-words_of of.0, c.loop-place-test.true))
 
 pub push-requires : goal.push-requires
 push-requires c =
-    let of = c.requires.spelled in
+    let of = c.requires.encoded in
     omega (arith, ap length (c.loop-place.invariant of.0 of.1 of.2), length-take c.loop-place.place of.0, ap length of.2, length-words_of of.0, c.loop-place-test.true, of.3)
 
 pub loop-place-preserved : goal.loop-place-preserved

@@ -1,7 +1,7 @@
 -- what was pushed are the first numbers
 use Rattle.std.proofs.Common.{◌≡◌, ℕ, List, take}
 use Rattle.std.specs.List.{AllByRecursion}
-use Rattle.definitions.specs.Columns.{IsWord, words_of}
+use Rattle.definitions_blocks.specs.Words.{IsWord, words_of}
 use Rattle.column_core.proofs.words.push_words.Given as goal
 
 abbrev pub invariant-loop-place : goal.invariant-loop-place

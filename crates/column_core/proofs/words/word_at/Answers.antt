@@ -1,10 +1,10 @@
 use Rattle.std.proofs.Common.{◌≡◌, ◌/◌, ◌<◌, [], length, get_or, ap, ap₂, arith, ◌∙◌}
 use Rattle.std.specs.Int.{from_le_bytes, w64}
 use Rattle.std.specs.Simd.{first_chunks}
-use Rattle.definitions.specs.Columns.{word_bytes}
-use Rattle.definitions.proofs.WordLaws.{from_le_bytes-word_bytes}
-use Rattle.definitions.proofs.SpellingLaws.{length-words_of}
-use Rattle.definitions.proofs.DifferenceLaws.{words_at}
+use Rattle.definitions_blocks.specs.Words.{word_bytes}
+use Rattle.definitions_blocks.proofs.WordLaws.{from_le_bytes-word_bytes}
+use Rattle.definitions_blocks.proofs.EncodingLaws.{length-words_of}
+use Rattle.definitions_blocks.proofs.DifferenceLaws.{words_at}
 use Rattle.column_core.proofs.EncodedLemmas.{chunks_of_words}
 use Rattle.column_core.proofs.words.word_at.Goals as goal
 

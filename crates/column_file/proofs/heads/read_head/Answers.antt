@@ -1,7 +1,7 @@
 use Rattle.std.proofs.Common.{◌≡◌, take, get_or, sym, ap, subst, arith, ◌∙◌}
-use Rattle.definitions.specs.Columns.{column_head}
-use Rattle.definitions.specs.ColumnFiles as columns
-use Rattle.definitions.specs.ColumnFiles.{IsColumnWidth}
+use Rattle.definitions_columns.specs.ColumnFiles.{column_head}
+use Rattle.definitions_blocks.specs.Formats as columns
+use Rattle.definitions_blocks.specs.Formats.{IsColumnWidth}
 use Rattle.block_core.specs.Formats.{format_of, tag_of}
 use Rattle.column_file.proofs.HeadLemmas.{shows, same_format, no_format}
 use Rattle.column_file.proofs.heads.read_head.Goals as goal

@@ -1,5 +1,5 @@
 use Rattle.std.proofs.Common.{subst}
-use Rattle.definitions.proofs.FaultLaws.{HasFileFault-none}
+use Rattle.definitions_columns.proofs.FaultLaws.{HasFileFault-none}
 use Rattle.block_core.specs.Formats.{format_of}
 use Rattle.column_file.specs.Faults.{Says}
 use Rattle.column_file.proofs.ReadLemmas.{no_column, one_fault}

@@ -1,6 +1,6 @@
 use Rattle.std.proofs.Common.{◌≡◌, sym, ap, subst, ◌∙◌}
-use Rattle.definitions.specs.Names.{column_file_name}
-use Rattle.definitions.specs.Replies.{ColumnBytesOf, RowsOf}
+use Rattle.stream_core.specs.Names.{column_file_name}
+use Rattle.engine_tool.specs.Replies.{ColumnBytesOf, RowsOf}
 use Rattle.engine_tool.specs.Tables.{letter_of}
 use Rattle.engine_tool.proofs.StepLemmas.{Ends-went}
 use Rattle.engine_tool.proofs.database.column_of.Goals as goal

@@ -1,5 +1,5 @@
 use Rattle.std.proofs.Common.{refl}
-use Rattle.definitions.specs.ColumnFiles.{bad_block}
+use Rattle.definitions_columns.specs.FileFaults.{bad_block}
 use Rattle.engine_tool.proofs.database.column_stop.Goals as goal
 
 pub returns-in-BadBlock-clause-step : goal.returns-in-BadBlock-clause-step

@@ -1,7 +1,7 @@
 use Rattle.std.proofs.Common.{◌≡◌, Ok, refl, sym, subst}
-use Rattle.definitions.specs.Outcomes.{Gives}
-use Rattle.definitions.specs.Sums.{kept_values}
-use Rattle.definitions.specs.Replies.{ColumnOf}
+use Rattle.engine_tool.specs.Outcomes.{Gives}
+use Rattle.definitions_operators.specs.Sums.{kept_values}
+use Rattle.engine_tool.specs.Replies.{ColumnOf}
 use Rattle.engine_tool.specs.Stops.{EndsAs}
 use Rattle.engine_tool.specs.Tables.{now_view}
 use Rattle.engine_tool.proofs.StepLemmas.{Ends-went}

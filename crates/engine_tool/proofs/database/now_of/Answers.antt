@@ -1,8 +1,9 @@
 use Rattle.std.proofs.Common.{◌≡◌, List, ℕ, Err, Some, length, refl, sym, ap, subst, inl, ◌∙◌, arith}
-use Rattle.definitions.specs.Databases.{Files, Now, IsNowFile, now_file}
-use Rattle.definitions.specs.Names.{now_file_name}
-use Rattle.definitions.specs.Replies.{NowOf}
-use Rattle.definitions.proofs.WordLaws.{length-word_bytes}
+use Rattle.stream_core.specs.Files.{Files}
+use Rattle.engine_tool.specs.NowFiles.{Now, IsNowFile, now_file}
+use Rattle.stream_core.specs.Names.{now_file_name}
+use Rattle.engine_tool.specs.Replies.{NowOf}
+use Rattle.definitions_blocks.proofs.WordLaws.{length-word_bytes}
 use Rattle.stream_core.specs.Stores.{Exceeds, IsLoaded}
 use Rattle.stream_core.specs.declared.storing.LoadError.TheVariants as load
 use Rattle.engine_tool.specs.declared.stops.What.TheVariants as what

@@ -1,7 +1,7 @@
 use Rattle.std.proofs.Common.{◌≡◌, length, List, ℕ}
 use Rattle.std.specs.Prelude.{codes}
-use Rattle.definitions.specs.Outcomes.{OneOr}
-use Rattle.definitions.specs.Replies.{ValuesOf, bad_file}
+use Rattle.engine_tool.specs.Outcomes.{OneOr}
+use Rattle.engine_tool.specs.Replies.{ValuesOf, bad_file}
 use Rattle.engine_tool.proofs.StepLemmas.{Ends-stopped}
 use Rattle.engine_tool.proofs.database.rows_of.Goals as goal
 

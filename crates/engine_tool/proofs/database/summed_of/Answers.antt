@@ -1,9 +1,10 @@
 use Rattle.std.proofs.Common.{Err, ◌∙◌}
 use Rattle.std.proofs.lemmas.Result.{err_from_is_err_and}
-use Rattle.definitions.specs.Outcomes.{Outcomes, Then}
-use Rattle.definitions.specs.Databases.{Files, Now}
-use Rattle.definitions.specs.Queries.{Query}
-use Rattle.definitions.specs.Replies.{NowOf, ColumnOf, KeptOf}
+use Rattle.engine_tool.specs.Outcomes.{Outcomes, Then}
+use Rattle.stream_core.specs.Files.{Files}
+use Rattle.engine_tool.specs.NowFiles.{Now}
+use Rattle.engine_tool.specs.Queries.{Query}
+use Rattle.engine_tool.specs.Replies.{NowOf, ColumnOf, KeptOf}
 use Rattle.std.proofs.Common.{List, ℕ}
 use Rattle.engine_tool.specs.Tables.{now_view}
 use Rattle.engine_tool.specs.Texts.{query_view}

@@ -1,6 +1,6 @@
 -- the blocks so far were decoded
 use Rattle.std.proofs.Common.{◌≡◌, ◌*◌, ◌≤◌, take, length}
-use Rattle.definitions.specs.Blocks.{block_len}
+use Rattle.definitions_blocks.specs.Blocks.{block_len}
 use Rattle.engine_tool.proofs.decoding.decoded.Given as goal
 
 abbrev pub invariant-loop-number : goal.invariant-loop-number

@@ -4,9 +4,9 @@ use Rattle.std.proofs.lemmas.Slice.Eq.{bytes_eq-Decides}
 use Rattle.std.specs.Prelude.{not}
 use Rattle.std.specs.Str.{bytes_eq}
 use Rattle.std.specs.Int.{from_le_bytes, w64}
-use Rattle.definitions.specs.Databases as databases
-use Rattle.definitions.specs.Databases.{now_file, IsNowFile}
-use Rattle.definitions.proofs.WordLaws.{length-word_bytes, from_le_bytes-word_bytes}
+use Rattle.engine_tool.specs.NowFiles as databases
+use Rattle.engine_tool.specs.NowFiles.{now_file, IsNowFile}
+use Rattle.definitions_blocks.proofs.WordLaws.{length-word_bytes, from_le_bytes-word_bytes}
 use Rattle.engine_tool.specs.Tables.{letter_of}
 use Rattle.engine_tool.proofs.now_file.read_now.Goals as goal
 

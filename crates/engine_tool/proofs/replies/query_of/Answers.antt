@@ -1,5 +1,5 @@
 use Rattle.std.proofs.Common.{◌∙◌, refl, inl, subst}
-use Rattle.definitions.specs.Queries.{Query, Spells}
+use Rattle.engine_tool.specs.Queries.{Query, Spells}
 use Rattle.engine_tool.proofs.replies.query_of.Goals as goal
 
 pub returns-clause-step : goal.returns-clause-step

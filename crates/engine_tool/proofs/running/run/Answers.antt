@@ -1,6 +1,6 @@
 use Rattle.std.proofs.Common.{map}
 use Rattle.std.specs.Prelude.{string_bytes}
-use Rattle.definitions.specs.Headline.{Outside}
+use Rattle.engine_tool.specs.Headline.{Outside}
 use Rattle.engine_tool.specs.Runs.{outside}
 use Rattle.engine_tool.proofs.RunLemmas.{Answered, run_reply, run_fault_text, run_complete}
 use Rattle.engine_tool.proofs.running.run.Given.{Over}

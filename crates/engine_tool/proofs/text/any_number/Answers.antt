@@ -1,7 +1,7 @@
 use Rattle.std.proofs.Common.{◌≡◌, ◌≢◌, ℕ, ◌^◌, ◌<◌, true, List, length, get_or, ap, sym, ◌∙◌, subst, arith}
 use Rattle.std.proofs.lemmas.Bool.Decides.{nat_tests}
 use Rattle.std.specs.Char.{is_ascii_digit}
-use Rattle.definitions.specs.Tokens.{number, front, value_of}
+use Rattle.engine_tool.specs.Tokens.{number, front, value_of}
 use Rattle.engine_tool.proofs.TextLemmas.{lacks_token, has_token, number_lacks_digits, number_lacks_large, number_found, front_passes}
 use Rattle.engine_tool.proofs.text.any_number.Goals as goal
 

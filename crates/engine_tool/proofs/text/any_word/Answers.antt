@@ -1,7 +1,7 @@
 use Rattle.std.proofs.Common.{◌≡◌, ℕ, List, true, false, [], ◌∷◌, sym, ◌∙◌, subst}
 use Rattle.std.proofs.lemmas.List.{nil_from_length}
 use Rattle.std.specs.Str.{str_to_ascii_lowercase}
-use Rattle.definitions.specs.Tokens.{word, begins_word, continues_word, front, behind}
+use Rattle.engine_tool.specs.Tokens.{word, begins_word, continues_word, front, behind}
 use Rattle.engine_tool.specs.Texts.{HasToken}
 use Rattle.engine_tool.proofs.TextLemmas.{word_lacks, token_at-word, lacks_token, has_token, lacks_at_end}
 use Rattle.engine_tool.proofs.text.any_word.Goals as goal

@@ -3,7 +3,7 @@ use Rattle.std.proofs.lemmas.List.{get_or-map, length-map}
 use Rattle.std.proofs.lemmas.List.Folds.{list_all_at}
 use Rattle.std.specs.Char.{to_ascii_lowercase}
 use Rattle.std.specs.Str.{str_to_ascii_lowercase}
-use Rattle.definitions.specs.Names.{is_name_byte}
+use Rattle.stream_core.specs.Names.{is_name_byte}
 use Rattle.engine_tool.proofs.text.lower_case.Goals as goal
 
 pub returns-then-not-is_name_byte : goal.returns-then-not-is_name_byte

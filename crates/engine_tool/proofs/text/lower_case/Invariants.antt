@@ -1,7 +1,7 @@
 use Rattle.std.proofs.Common.{◌≡◌, true, take}
 use Rattle.std.specs.List.{list_all}
 use Rattle.std.specs.Str.{str_to_ascii_lowercase}
-use Rattle.definitions.specs.Names.{is_name_byte}
+use Rattle.stream_core.specs.Names.{is_name_byte}
 use Rattle.engine_tool.proofs.text.lower_case.Given as goal
 
 -- the bytes so far are those of a name

@@ -1,6 +1,6 @@
 use Rattle.std.proofs.Common.{◌≡◌, [], ◌∷◌, ap, sym, ◌∙◌}
 use Rattle.std.proofs.lemmas.List.{nil_from_length}
-use Rattle.definitions.specs.Tokens.{symbol}
+use Rattle.engine_tool.specs.Tokens.{symbol}
 use Rattle.engine_tool.proofs.TextLemmas.{symbol_lacks_other, token_at-parenthesis, lacks_token, has_token, lacks_at_end}
 use Rattle.engine_tool.proofs.text.parenthesis.Goals as goal
 

@@ -1,6 +1,6 @@
 use Rattle.std.proofs.Common.{[], ◌∷◌}
 use Rattle.std.specs.Prelude.{codes}
-use Rattle.definitions.specs.Tokens.{word, number, Begins}
+use Rattle.engine_tool.specs.Tokens.{word, number, Begins}
 use Rattle.engine_tool.proofs.TextLemmas.{begins_next}
 use Rattle.engine_tool.proofs.text.read_condition.Goals as goal
 

@@ -1,6 +1,6 @@
 use Rattle.std.proofs.Common.{◌≡◌, ℕ, List, [], ◌++◌, refl, subst}
-use Rattle.definitions.specs.Tokens.{Begins, AreTokens}
-use Rattle.definitions.specs.Queries.{Query, item_tokens, table_tokens, where_tokens, query_tokens}
+use Rattle.engine_tool.specs.Tokens.{Begins, AreTokens}
+use Rattle.engine_tool.specs.Queries.{Query, item_tokens, table_tokens, where_tokens, query_tokens}
 use Rattle.engine_tool.specs.Texts.{query_view}
 use Rattle.engine_tool.proofs.TextLemmas.{Begins-split, Begins-join, Begins-rest}
 use Rattle.engine_tool.proofs.text.read_query.Goals as goal

@@ -1,5 +1,5 @@
 use Rattle.std.proofs.Common.{[], ◌∷◌}
-use Rattle.definitions.specs.Tokens.{word, Begins}
+use Rattle.engine_tool.specs.Tokens.{word, Begins}
 use Rattle.engine_tool.proofs.TextLemmas.{begins_next}
 use Rattle.engine_tool.proofs.text.read_table.Goals as goal
 

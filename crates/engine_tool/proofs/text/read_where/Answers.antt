@@ -1,8 +1,8 @@
 use Rattle.std.proofs.Common.{◌≡◌, [], Option, Some, None, ap, length, sym, ◌∙◌, arith, List, ℕ}
 use Rattle.std.proofs.lemmas.Bool.Decides.{nat_tests}
-use Rattle.definitions.specs.Names.{IsName}
-use Rattle.definitions.specs.Tokens.{AreTokens, Begins, behind, is_white_space}
-use Rattle.definitions.specs.Queries.{Condition, NamesTested, where_tokens, condition_tokens}
+use Rattle.stream_core.specs.Names.{IsName}
+use Rattle.engine_tool.specs.Tokens.{AreTokens, Begins, behind, is_white_space}
+use Rattle.engine_tool.specs.Queries.{Condition, NamesTested, where_tokens, condition_tokens}
 use Rattle.engine_tool.proofs.text.read_where.Goals as goal
 
 -- a text that is no white space and no condition ends in another way

@@ -1,6 +1,6 @@
 use Rattle.std.proofs.Common.{◌≡◌, take, ap, ◌∙◌, arith}
 use Rattle.std.proofs.lemmas.List.{take_all}
-use Rattle.definitions.specs.Tokens.{value_of}
+use Rattle.engine_tool.specs.Tokens.{value_of}
 use Rattle.engine_tool.proofs.TextLemmas.{value_of-more}
 use Rattle.engine_tool.proofs.text.value_of.Goals as goal
 

@@ -1,5 +1,5 @@
 use Rattle.std.proofs.Common.{◌≡◌, ◌^◌, ◌<◌, take}
-use Rattle.definitions.specs.Tokens.{value_of}
+use Rattle.engine_tool.specs.Tokens.{value_of}
 use Rattle.engine_tool.proofs.text.value_of.Given as goal
 
 -- the value is that of the digits so far

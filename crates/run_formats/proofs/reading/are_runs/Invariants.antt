@@ -1,6 +1,6 @@
 -- all cells pass exactly if the rest passes from here on
 use Rattle.std.proofs.Common.{◌↔◌, map, drop, None}
-use Rattle.definitions.specs.Blocks.{block_len}
+use Rattle.definitions_blocks.specs.Blocks.{block_len}
 use Rattle.run_formats.specs.Cells.{run_in, Passes}
 use Rattle.run_formats.proofs.reading.are_runs.Given as goal
 

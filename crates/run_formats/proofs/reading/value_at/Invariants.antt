@@ -1,7 +1,7 @@
 -- the value that is asked for stands in the cells that are left, so many places on
 use Rattle.std.proofs.Common.{◌≡◌, ◌<◌, length, map, drop}
 use Rattle.std.specs.Prelude.{slice_index}
-use Rattle.definitions.specs.Runs.{run_values}
+use Rattle.definitions_blocks.specs.Runs.{run_values}
 use Rattle.run_formats.specs.Cells.{run_in}
 use Rattle.run_formats.proofs.reading.value_at.Given as goal
 

@@ -1,6 +1,6 @@
 -- what is written, and the values of the cells that are left, are the values of all cells
 use Rattle.std.proofs.Common.{◌≡◌, ◌≤◌, ◌++◌, length, map, take, drop}
-use Rattle.definitions.specs.Runs.{run_values}
+use Rattle.definitions_blocks.specs.Runs.{run_values}
 use Rattle.run_formats.specs.Cells.{run_in}
 use Rattle.run_formats.proofs.reading.write_values.Given as goal
 

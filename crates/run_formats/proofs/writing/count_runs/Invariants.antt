@@ -1,6 +1,6 @@
 -- the runs so far, and those of the values that are left, are all runs
 use Rattle.std.proofs.Common.{◌≡◌, ◌≤◌, ◌+◌, drop}
-use Rattle.definitions.specs.Runs.{run_count, runs_after}
+use Rattle.definitions_blocks.specs.Runs.{run_count, runs_after}
 use Rattle.run_formats.proofs.writing.count_runs.Given as goal
 
 abbrev pub invariant-loop-value : goal.invariant-loop-value

@@ -1,6 +1,6 @@
 use Rattle.std.proofs.Common.{◌++◌, ap, ◌∙◌, length, ap₂}
-use Rattle.definitions.specs.Columns.{word_bytes}
-use Rattle.definitions.specs.Runs.{two_bytes}
+use Rattle.definitions_blocks.specs.Words.{word_bytes}
+use Rattle.definitions_blocks.specs.Runs.{two_bytes}
 use Rattle.run_formats.proofs.Writes.{both_parts}
 use Rattle.run_formats.proofs.writing.put_run.Goals as goal
 

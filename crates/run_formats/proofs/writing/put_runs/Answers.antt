@@ -1,7 +1,7 @@
 use Rattle.std.proofs.Common.{◌≡◌, ◌-◌, flat_map, length, drop, sym, ◌∙◌, arith}
 use Rattle.std.proofs.lemmas.List.{length-take, length-drop}
-use Rattle.definitions.specs.Runs.{run_bytes}
-use Rattle.definitions.proofs.RunLaws.{runs_of, length-runs_bytes}
+use Rattle.definitions_blocks.specs.Runs.{run_bytes}
+use Rattle.definitions_blocks.proofs.RunLaws.{runs_of, length-runs_bytes}
 use Rattle.run_formats.proofs.Writes.{room_for_one, room_for_last, run_ends, run_grows}
 use Rattle.run_formats.proofs.writing.put_runs.Goals as goal
 use Rattle.run_formats.proofs.writing.put_runs.Goals.{then-next-value, else-next-value}

@@ -1,7 +1,7 @@
 -- what is written, and the cells of the runs that are left, are the cells of all runs
 use Rattle.std.proofs.Common.{◌≡◌, ◌≤◌, ◌++◌, flat_map, length, take, drop}
-use Rattle.definitions.specs.Runs.{run_bytes}
-use Rattle.definitions.proofs.RunLaws.{runs_from, runs_of}
+use Rattle.definitions_blocks.specs.Runs.{run_bytes}
+use Rattle.definitions_blocks.proofs.RunLaws.{runs_from, runs_of}
 use Rattle.run_formats.proofs.writing.put_runs.Given as goal
 
 abbrev pub invariant-loop-next : goal.invariant-loop-next

@@ -1,5 +1,5 @@
 use Rattle.std.proofs.Common.{◌≡◌, ◌+◌, ◌++◌, List, ℕ, drop, take, arith, ap, ◌∙◌}
-use Rattle.definitions.specs.Operators.{positions_from}
+use Rattle.definitions_operators.specs.Operators.{positions_from}
 use Rattle.scan_ops.proofs.PositionsLemmas.{positions_from-block}
 use Rattle.scan_ops.proofs.selection.append_positions.Goals as goal
 

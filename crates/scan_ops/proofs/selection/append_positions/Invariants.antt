@@ -1,6 +1,6 @@
 -- what was appended, and the position list of the values left, make up the whole
 use Rattle.std.proofs.Common.{◌≡◌, ◌-◌, ◌≤◌, ◌++◌, length, drop}
-use Rattle.definitions.specs.Operators.{positions_from, positions_in}
+use Rattle.definitions_operators.specs.Operators.{positions_from, positions_in}
 use Rattle.scan_ops.proofs.selection.append_positions.Given as goal
 
 abbrev pub invariant-loop-first : goal.invariant-loop-first

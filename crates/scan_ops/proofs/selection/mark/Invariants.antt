@@ -1,6 +1,6 @@
 -- the rows that stay, and those that the values left will give, are the position list of the block
 use Rattle.std.proofs.Common.{◌≡◌, ◌+◌, ◌≤◌, ◌++◌, take, drop}
-use Rattle.definitions.specs.Operators.{positions_from}
+use Rattle.definitions_operators.specs.Operators.{positions_from}
 use Rattle.scan_ops.proofs.selection.mark.Given as goal
 
 abbrev pub invariant-loop-value : goal.invariant-loop-value

@@ -1,7 +1,7 @@
 use Rattle.std.proofs.Common.{◌≡◌, ℕ, ◌+◌, ◌-◌, ◌*◌, ◌^◌, ◌<◌, length, get_or, sym, subst, ap, ◌∙◌, arith}
 use Rattle.std.proofs.lemmas.List.{get_or-replicate, length-replicate}
 use Rattle.strand_pack.proofs.LaneLaws.{loaded_at}
-use Rattle.strand_pack.proofs.Strands.{AreBegun-none, AreBegun-inside, AreBegun-full, AreBegun-at, AreSpelled-from_begun, IsRow, AreWritten}
+use Rattle.strand_pack.proofs.Strands.{AreBegun-none, AreBegun-inside, AreBegun-full, AreBegun-at, AreEncoded-from_begun, IsRow, AreWritten}
 use Rattle.strand_pack.proofs.packing.pack_strands.Goals as goal
 use Rattle.strand_pack.proofs.packing.pack_strands.Goals.{then-width-room, else-width-room}
 
@@ -42,7 +42,7 @@ loop-row-preserved g c =
           w.line-is w.bits-is w.into-is w.words-is
     ]
 
-pub returns-clause-spelled : goal.returns-clause-spelled
-returns-clause-spelled g c =
-    AreSpelled-from_begun c.args.width c.args.first g.row.L c.loop-row.row c.loop-row.line c.loop-row.bits c.args.full.now c.loop-row.into c.loop-row.words _ c.loop-row.invariant (omega arith) c.requires.strands c.requires.whole
+pub returns-clause-encoded : goal.returns-clause-encoded
+returns-clause-encoded g c =
+    AreEncoded-from_begun c.args.width c.args.first g.row.L c.loop-row.row c.loop-row.line c.loop-row.bits c.args.full.now c.loop-row.into c.loop-row.words _ c.loop-row.invariant (omega arith) c.requires.strands c.requires.whole
     c.requires.small c.bytes_fit.ensures

@@ -1,15 +1,15 @@
 use Rattle.std.proofs.Common.{◌≡◌, ◌+◌, ◌-◌, ◌*◌, ◌<◌, length, take, drop, get_or, refl, sym, ap, subst, arith}
 use Rattle.std.proofs.lemmas.List.{length-take, length-drop}
-use Rattle.definitions.specs.Packed.{IsPacked, IsWidth}
-use Rattle.definitions.proofs.SpellingLaws.{take-octet, drop-octet, BeginsDynamic, begins_dynamic}
+use Rattle.definitions_blocks.specs.Packed.{IsPacked, IsWidth}
+use Rattle.definitions_blocks.proofs.EncodingLaws.{take-octet, drop-octet, BeginsDynamic, begins_dynamic}
 use Rattle.block_formats.proofs.BlockLemmas.{FoundDynamic, dynamic_found}
 use Rattle.block_formats.proofs.dynamic_blocks.DynamicPacking.check.Goals as goal
 
 pub returns-then-not-is_least : goal.returns-then-not-is_least
-returns-then-not-is_least g c = λ values spelling rest is e.
+returns-then-not-is_least g c = λ values encoding rest is e.
     let bytes = c.args.bytes.now in
     let width = get_or bytes 0 0 in
-    let begins : BeginsDynamic values bytes = begins_dynamic values spelling rest bytes is e in
+    let begins : BeginsDynamic values bytes = begins_dynamic values encoding rest bytes is e in
     let count : 1 + c.packed_len-end.result - 1 ≡ 128 * width = omega (arith, c.packed_len-end.ensures) in
     let at : IsPacked width values (take (128 * width) (drop 1 bytes)) = subst (λ w. IsPacked w values (take (128 * w) (drop 1 bytes))) (sym begins.first) begins.packing in
     let packing : IsPacked width values (take (1 + c.packed_len-end.result - 1) (drop 1 bytes)) = subst (λ n. IsPacked width values (take n (drop 1 bytes))) (sym count) at in
@@ -29,4 +29,4 @@ returns g c =
     (omega (arith, length-take (1 + length_of - 1) (drop 1 bytes), length-drop 1 bytes))
     (take-octet (1 + length_of - 1) (drop 1 bytes) (drop-octet 1 bytes (λ k. (c.type_inv.bytes k).fits)))
     (λ values packing. (c.is_least.ensures values packing).0 c.if-not-is_least.false) in
-    record { values = found.values; spelled = found.spelled; headed = found.headed; within = omega (arith, some, c.packed_len.ensures, c.packed_len-end.ensures) }
+    record { values = found.values; encoded = found.encoded; headed = found.headed; within = omega (arith, some, c.packed_len.ensures, c.packed_len-end.ensures) }

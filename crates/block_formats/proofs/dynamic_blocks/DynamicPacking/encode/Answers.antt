@@ -1,7 +1,7 @@
 use Rattle.std.proofs.Common.{◌≡◌, ◌∷◌, sym, subst, ap, arith}
-use Rattle.definitions.specs.Packed.{IsPacked}
-use Rattle.definitions.specs.Spellings.{IsDynamicBlock, width_of}
-use Rattle.definitions.proofs.SpellingLaws.{IsDynamicBlock-size}
+use Rattle.definitions_blocks.specs.Packed.{IsPacked}
+use Rattle.definitions_blocks.specs.Encodings.{IsDynamicBlock, width_of}
+use Rattle.definitions_blocks.proofs.EncodingLaws.{IsDynamicBlock-size}
 use Rattle.block_formats.proofs.BlockLemmas.{written_behind}
 use Rattle.block_formats.proofs.dynamic_blocks.DynamicPacking.encode.Goals as goal
 
@@ -10,7 +10,7 @@ returns g c =
     let values = c.args.full.now in
     let width = c.args.width in
     let packed = c.pack.new.into in
-    let spelled = c.requires.spelled in
+    let encoded = c.requires.encoded in
     let head : width ≡ width_of values = c.requires.headed in
-    subst (λ l. IsDynamicBlock values l) (sym (written_behind width c.args.into.now packed (omega (arith, IsDynamicBlock-size values spelled.0 spelled.1))))
-    (record { full = spelled.1.full; packed = packed; packing = subst (λ w. IsPacked w values packed) head c.pack.ensures; spelled = ap (λ w. w ∷ packed) head })
+    subst (λ l. IsDynamicBlock values l) (sym (written_behind width c.args.into.now packed (omega (arith, IsDynamicBlock-size values encoded.0 encoded.1))))
+    (record { full = encoded.1.full; packed = packed; packing = subst (λ w. IsPacked w values packed) head c.pack.ensures; encoded = ap (λ w. w ∷ packed) head })

@@ -1,6 +1,6 @@
 use Rattle.std.proofs.Common.{sym}
-use Rattle.definitions.proofs.SpellingLaws.{IsPlainBlock-size}
+use Rattle.definitions_blocks.proofs.EncodingLaws.{IsPlainBlock-size}
 use Rattle.block_formats.proofs.plain_blocks.WordsPacking.byte_len.Goals as goal
 
 pub returns : goal.returns
-returns c = λ bytes is. sym (IsPlainBlock-size is.values bytes is.spelled)
+returns c = λ bytes is. sym (IsPlainBlock-size is.values bytes is.encoded)

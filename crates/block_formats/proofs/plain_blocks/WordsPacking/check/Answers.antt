@@ -1,10 +1,10 @@
 use Rattle.std.proofs.Common.{take, refl, ap, length, arith, length-append}
 use Rattle.std.proofs.lemmas.List.{length-take}
-use Rattle.definitions.proofs.SpellingLaws.{plain_values, take-octet, IsPlainBlock-size, IsPlainBlock-values}
+use Rattle.definitions_blocks.proofs.EncodingLaws.{plain_values, take-octet, IsPlainBlock-size, IsPlainBlock-values}
 use Rattle.block_formats.proofs.plain_blocks.WordsPacking.check.Goals as goal
 
 pub returns-then-bytes-lt-BLOCK_BYTES : goal.returns-then-bytes-lt-BLOCK_BYTES
-returns-then-bytes-lt-BLOCK_BYTES c = λ values spelling rest is e. omega (arith, ap length e, length-append spelling rest, IsPlainBlock-size values spelling is)
+returns-then-bytes-lt-BLOCK_BYTES c = λ values encoding rest is e. omega (arith, ap length e, length-append encoding rest, IsPlainBlock-size values encoding is)
 
 pub returns : goal.returns
 returns c =
@@ -12,7 +12,7 @@ returns c =
     let front = take 8192 bytes in
     record {
       values = plain_values front;
-      spelled = IsPlainBlock-values front (omega (arith, length-take 8192 bytes)) (take-octet 8192 bytes (λ k. (c.type_inv.bytes k).fits));
+      encoded = IsPlainBlock-values front (omega (arith, length-take 8192 bytes)) (take-octet 8192 bytes (λ k. (c.type_inv.bytes k).fits));
       headed = refl;
       within = omega arith;
     }

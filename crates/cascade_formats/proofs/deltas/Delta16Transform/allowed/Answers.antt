@@ -1,5 +1,5 @@
 use Rattle.std.proofs.Common.{length, get_or, sym, ap, ◌∙◌, subst}
-use Rattle.definitions.proofs.DifferenceLaws.{full_from}
+use Rattle.definitions_blocks.proofs.DifferenceLaws.{full_from}
 use Rattle.cascade_formats.proofs.Allowed.{delta16_split, delta16_begins}
 use Rattle.cascade_formats.proofs.deltas.Delta16Transform.allowed.Goals as goal
 

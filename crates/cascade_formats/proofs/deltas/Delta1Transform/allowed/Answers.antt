@@ -1,5 +1,5 @@
 use Rattle.std.proofs.Common.{length, get_or, sym, ap, ◌∙◌, subst}
-use Rattle.definitions.proofs.DifferenceLaws.{full_from}
+use Rattle.definitions_blocks.proofs.DifferenceLaws.{full_from}
 use Rattle.cascade_formats.proofs.Allowed.{delta1_split, delta1_begins}
 use Rattle.cascade_formats.proofs.deltas.Delta1Transform.allowed.Goals as goal
 

@@ -1,6 +1,6 @@
 use Rattle.std.proofs.Common.{◌≡◌, ◌+◌, ◌<◌, ◌^◌, length, get_or, sym, ap, ◌∙◌, arith}
-use Rattle.definitions.specs.Differences.{least_of}
-use Rattle.definitions.proofs.DifferenceLaws.{full_from}
+use Rattle.definitions_blocks.specs.Differences.{least_of}
+use Rattle.definitions_blocks.proofs.DifferenceLaws.{full_from}
 use Rattle.cascade_formats.proofs.Allowed.{reference_split, reference_zero, reference_fits}
 use Rattle.cascade_formats.proofs.references.ReferenceTransform.allowed.Goals as goal
 

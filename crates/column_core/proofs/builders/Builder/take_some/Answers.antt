@@ -1,14 +1,14 @@
 use Rattle.std.proofs.Common.{◌≡◌, ◌≤◌, ◌+◌, ◌%◌, ℕ, List, ◌++◌, [], length, take, drop, true, refl, sym, ap, ap₂, ◌∙◌, subst, arith, length-append, append_assoc}
 use Rattle.std.proofs.lemmas.Bool.{false≢true}
 use Rattle.std.proofs.lemmas.List.{append-nil, length-take, take-append-drop}
-use Rattle.definitions.specs.Blocks.{block_len}
-use Rattle.definitions.specs.Columns.{max_rows}
-use Rattle.definitions.specs.ColumnFiles.{fits_columns}
-use Rattle.definitions.specs.Sizes.{is_within_room}
-use Rattle.definitions.proofs.SizeLaws.{IsInRoom, in_room, is_within_room-front}
+use Rattle.definitions_blocks.specs.Blocks.{block_len}
+use Rattle.definitions_blocks.specs.Columns.{max_rows}
+use Rattle.definitions_columns.specs.ColumnFiles.{fits_columns}
+use Rattle.definitions_columns.specs.Sizes.{is_within_room}
+use Rattle.definitions_columns.proofs.SizeLaws.{IsInRoom, in_room, is_within_room-front}
 use Rattle.block_core.specs.declared.formats.Format.{Format}
 use Rattle.block_core.specs.Formats.{format_of}
-use Rattle.column_core.specs.Columns.{Reserve, Encoding, encoding}
+use Rattle.column_core.specs.Columns.{Reserve, Encoding, encoding_of}
 use Rattle.column_core.specs.Scopes.{IsBuilding, HoldsOfPrefixes-fits_columns}
 use Rattle.column_core.proofs.builders.Builder.take_some.Goals as goal
 use Rattle.column_core.proofs.builders.Builder.take_some.Goals.{After-append, then-as_slice-eq-BLOCK_LEN+in_ok-flush, else-as_slice-eq-BLOCK_LEN}
@@ -16,11 +16,11 @@ use Rattle.column_core.proofs.builders.Builder.take_some.Goals.{After-append, th
 -- what was encoded and what waits, of the list before
 record Held (encoded : Encoding) (block : List ℕ) (before : Encoding) : Type 0 where
   building : IsBuilding encoded.format encoded.width encoded.values block
-  same : encoding encoded.format encoded.width encoded.reserve (encoded.values ++ block) ≡ before
+  same : encoding_of encoded.format encoded.width encoded.reserve (encoded.values ++ block) ≡ before
 
 -- after a full block was encoded
-flushed : (old new before : Encoding) (block empty : List ℕ) → IsBuilding old.format old.width old.values block → encoding old.format old.width old.reserve (old.values ++ block) ≡ before
-    → length block ≡ block_len → new ≡ encoding old.format old.width old.reserve (old.values ++ block) → empty ≡ [] → Held new empty before
+flushed : (old new before : Encoding) (block empty : List ℕ) → IsBuilding old.format old.width old.values block → encoding_of old.format old.width old.reserve (old.values ++ block) ≡ before
+    → length block ≡ block_len → new ≡ encoding_of old.format old.width old.reserve (old.values ++ block) → empty ≡ [] → Held new empty before
 flushed old new before block empty is same full made none =
     let all = old.values ++ block in
     let nothing : all ++ empty ≡ all = ap (λ (l : List ℕ). all ++ l) none ∙ append-nil all in
@@ -33,7 +33,7 @@ flushed old new before block empty is same full made none =
         few = omega (arith, is.few, ap length nothing);
         fits = ap (fits_columns (format_of old.format) old.width) nothing ∙ is.fits;
       };
-      same = ap (encoding old.format old.width old.reserve) nothing ∙ same;
+      same = ap (encoding_of old.format old.width old.reserve) nothing ∙ same;
     })
 
 -- some values more in the block that waits

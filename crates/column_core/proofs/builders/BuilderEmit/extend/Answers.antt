@@ -1,7 +1,7 @@
 use Rattle.std.proofs.Common.{◌≡◌, ◌+◌, ◌++◌, ℕ, List, length, take, drop, ap, ◌∙◌, arith}
 use Rattle.std.proofs.lemmas.List.{length-drop}
 use Rattle.block_core.proofs.PrefixLemmas.{more_of}
-use Rattle.column_core.specs.Columns.{Encoding, encoding}
+use Rattle.column_core.specs.Columns.{Encoding, encoding_of}
 use Rattle.column_core.proofs.builders.BuilderEmit.extend.Goals as goal
 
 pub loop-taken-preserved : goal.loop-taken-preserved
@@ -13,7 +13,7 @@ loop-taken-preserved c =
     record {
       within = omega (arith, c.in_ok-taken.ensures.within, ap length c.rest_from.ensures, length-drop at values);
       builder = c.in_ok-taken.ensures.ok
-          ∙ ap (λ (e : Encoding). encoding e.format e.width e.reserve (e.values ++ take n c.rest_from.result.now)) c.loop-taken.invariant.builder
-          ∙ ap (encoding old.format old.width old.reserve)
+          ∙ ap (λ (e : Encoding). encoding_of e.format e.width e.reserve (e.values ++ take n c.rest_from.result.now)) c.loop-taken.invariant.builder
+          ∙ ap (encoding_of old.format old.width old.reserve)
           (ap (λ (l : List ℕ). (old.values ++ take at values) ++ take n l) c.rest_from.ensures ∙ more_of at n old.values values);
     }

@@ -1,7 +1,7 @@
 use Rattle.std.proofs.Common.{◌≡◌, ◌++◌, ◌∷◌, [], true}
 use Rattle.std.proofs.lemmas.Bool.{false≢true}
-use Rattle.definitions.specs.Sizes.{is_within_room}
-use Rattle.definitions.proofs.SizeLaws.{IsInRoom, in_room, is_within_room-front}
+use Rattle.definitions_columns.specs.Sizes.{is_within_room}
+use Rattle.definitions_columns.proofs.SizeLaws.{IsInRoom, in_room, is_within_room-front}
 use Rattle.block_core.specs.Formats.{format_of}
 use Rattle.column_core.proofs.builders.BuilderEmit.push.Goals as goal
 

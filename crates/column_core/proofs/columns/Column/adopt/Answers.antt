@@ -1,10 +1,10 @@
 use Rattle.std.proofs.Common.{◌≡◌, ℕ, List, length, get_or, take, drop, sym, ap, subst, ◌∙◌, arith}
 use Rattle.std.specs.Int.{from_le_bytes, w64}
-use Rattle.definitions.specs.ColumnFiles.{static_width_of}
-use Rattle.definitions.proofs.ColumnFileLaws.{SameColumn, IsEncoded-one}
+use Rattle.definitions_columns.specs.ColumnFiles.{static_width_of}
+use Rattle.definitions_columns.proofs.ColumnFileLaws.{SameColumn, IsEncoded-one}
 use Rattle.block_core.specs.declared.formats.Format.{Format}
 use Rattle.block_core.specs.Formats.{format_of}
-use Rattle.column_core.specs.Columns.{Encoding, encoding, reserve, shape}
+use Rattle.column_core.specs.Columns.{Encoding, encoding_of, reserve, shape}
 use Rattle.column_core.proofs.EncodedLemmas.{head_cells, as_read}
 use Rattle.column_core.proofs.columns.Column.adopt.Goals as goal
 
@@ -26,7 +26,7 @@ adopt-requires c =
 record Adopted (read : Format) (width : ℕ) (result : Encoding) (format : Format) (values : List ℕ) : Type 0 where
   formats : read ≡ format
   widths : width ≡ static_width_of (format_of format) values
-  is : result ≡ encoding read width (reserve 0 0) values
+  is : result ≡ encoding_of read width (reserve 0 0) values
 
 adopted : (c : goal.After-adopt) → Adopted c.format_in-format.result c.width_in-width.result c.adopt.result c.requires.0 c.requires.1
 adopted c =

@@ -1,6 +1,6 @@
-use Rattle.definitions.specs.Blocks.{block_at}
-use Rattle.definitions.specs.ColumnFiles.{static_width_of}
-use Rattle.definitions.proofs.BlockLaws.{BlockOf-values}
+use Rattle.definitions_blocks.specs.Blocks.{block_at}
+use Rattle.definitions_columns.specs.ColumnFiles.{static_width_of}
+use Rattle.definitions_blocks.proofs.BlockLaws.{BlockOf-values}
 use Rattle.block_core.specs.Formats.{format_of}
 use Rattle.column_core.proofs.columns.Column.read_block.Goals as goal
 

@@ -1,7 +1,8 @@
 use Rattle.std.proofs.Common.{◌≡◌, true, sym, subst, ◌∙◌}
-use Rattle.definitions.specs.ColumnFiles.{IsColumnWidth, fits_columns}
-use Rattle.definitions.proofs.SpellingLaws.{AreBelow-words}
-use Rattle.definitions.proofs.WidthLaws.{static_width_of-lawful, static_width_of-fits}
+use Rattle.definitions_blocks.specs.Formats.{IsColumnWidth}
+use Rattle.definitions_columns.specs.ColumnFiles.{fits_columns}
+use Rattle.definitions_blocks.proofs.EncodingLaws.{AreBelow-words}
+use Rattle.definitions_columns.proofs.WidthLaws.{static_width_of-lawful, static_width_of-fits}
 use Rattle.block_core.specs.Formats.{format_of}
 use Rattle.column_core.specs.Columns.{Shape}
 use Rattle.column_core.proofs.columns.Column.static_width.Goals as goal

@@ -1,6 +1,6 @@
 use Rattle.std.proofs.Common.{◌≡◌, ◌*◌, ◌/◌, length, get_or, drop, ◌∙◌, arith}
 use Rattle.std.proofs.lemmas.List.{get_or-take, get_or-drop}
-use Rattle.definitions.specs.Blocks.{block_len, block_at}
+use Rattle.definitions_blocks.specs.Blocks.{block_len, block_at}
 use Rattle.column_core.proofs.columns.Column.tail_value.Goals as goal
 
 pub returns : goal.returns

@@ -1,6 +1,7 @@
 use Rattle.std.proofs.Common.{◌≡◌, ap, subst, ◌∙◌}
-use Rattle.definitions.specs.Columns.{words_of}
-use Rattle.definitions.specs.ColumnFiles.{plain, IsEncoded}
+use Rattle.definitions_blocks.specs.Words.{words_of}
+use Rattle.definitions_blocks.specs.Formats.{plain}
+use Rattle.definitions_columns.specs.ColumnFiles.{IsEncoded}
 use Rattle.block_core.specs.Formats.{format_of}
 use Rattle.column_core.specs.Columns.{Shape}
 use Rattle.column_core.proofs.EncodedLemmas.{head_cells}

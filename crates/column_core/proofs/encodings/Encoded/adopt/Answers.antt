@@ -1,5 +1,5 @@
 use Rattle.std.proofs.Common.{ap, arith}
-use Rattle.column_core.specs.Columns.{encoding, reserve}
+use Rattle.column_core.specs.Columns.{encoding_of, reserve}
 use Rattle.column_core.proofs.EncodedLemmas.{stored_is, indexed_as}
 use Rattle.column_core.proofs.encodings.Encoded.adopt.Goals as goal
 
@@ -9,4 +9,4 @@ invariant_of-result-2 c =
     (both.0, both.1, omega arith, omega arith)
 
 pub returns : goal.returns
-returns c = λ values is. ap (encoding c.args.format c.args.width (reserve 0 0)) (stored_is c.args.format c.args.width c.args.bytes.items c.result-1.given.0 values is)
+returns c = λ values is. ap (encoding_of c.args.format c.args.width (reserve 0 0)) (stored_is c.args.format c.args.width c.args.bytes.items c.result-1.given.0 values is)

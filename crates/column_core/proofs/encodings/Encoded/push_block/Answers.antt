@@ -1,9 +1,9 @@
 use Rattle.std.proofs.Common.{◌≤◌, ◌+◌, ◌++◌, length, ap, arith}
 use Rattle.std.proofs.lemmas.Bool.{false≢true}
-use Rattle.definitions.specs.Sizes.{front_size}
-use Rattle.definitions.proofs.BlockLaws.{BlockOf-spelling}
+use Rattle.definitions_columns.specs.Sizes.{front_size}
+use Rattle.definitions_blocks.proofs.BlockLaws.{BlockOf-encoding}
 use Rattle.block_core.specs.Formats.{format_of}
-use Rattle.column_core.specs.Columns.{encoding, reserve}
+use Rattle.column_core.specs.Columns.{encoding_of, reserve}
 use Rattle.column_core.proofs.EncodedLemmas.{stored_is, change_is, pushed, unchanged, head_fits, on_err}
 use Rattle.column_core.proofs.ReserveLemmas.{RoomForBlock, room_for_block}
 use Rattle.column_core.proofs.encodings.Encoded.push_block.Goals as goal
@@ -11,9 +11,9 @@ use Rattle.column_core.proofs.encodings.Encoded.push_block.Goals as goal
 pub grow-requires-clause-head : goal.grow-requires-clause-head
 grow-requires-clause-head c = head_fits c.self.inside.format c.self.inside.width c.self.inside.stored.0 c.self.inside.bytes.items c.self.inside.starts.items c.self.invariant.1
 
-pub grow-requires-clause-spelled : goal.grow-requires-clause-spelled
-grow-requires-clause-spelled c =
-    BlockOf-spelling (format_of c.self.inside.format) c.self.inside.width c.args.full.now (rw (← c.self.view_is) at c.requires.lawful) c.requires.full (rw (← c.self.view_is) at c.requires.fits)
+pub grow-requires-clause-encoded : goal.grow-requires-clause-encoded
+grow-requires-clause-encoded c =
+    BlockOf-encoding (format_of c.self.inside.format) c.self.inside.width c.args.full.now (rw (← c.self.view_is) at c.requires.lawful) c.requires.full (rw (← c.self.view_is) at c.requires.fits)
 
 pub invariant_of-self : goal.invariant_of-self
 invariant_of-self c =
@@ -26,7 +26,7 @@ pub returns-in_err-grow-clause-err : goal.returns-in_err-grow-clause-err
 returns-in_err-grow-clause-err c =
     let i = c.self.inside in
     let kept = unchanged i.format i.width i.count i.stored.0 i.bytes.items i.starts.items c.grow.new.bytes.items c.grow.new.starts.items c.self.invariant.1 c.self.invariant.0 c.in_err-grow.ensures.bytes_kept c.in_err-grow.ensures.starts_kept in
-    rw (← c.self.view_is) (on_err c.from_residual.result (ap (encoding i.format i.width (reserve i.reserved_bytes i.reserved_count)) (stored_is i.format i.width c.grow.new.bytes.items c.in_err-grow.self-1-own.given.0 i.stored.0 kept.indexed.encoded)))
+    rw (← c.self.view_is) (on_err c.from_residual.result (ap (encoding_of i.format i.width (reserve i.reserved_bytes i.reserved_count)) (stored_is i.format i.width c.grow.new.bytes.items c.in_err-grow.self-1-own.given.0 i.stored.0 kept.indexed.encoded)))
 
 pub invariant_of-self-inside-2 : goal.invariant_of-self-inside-2
 invariant_of-self-inside-2 c =
@@ -48,15 +48,15 @@ returns-clause-ok c =
     let i = c.self.inside in
     let change = pushed i.format i.width (i.count + 1024) i.stored.0 i.bytes.items i.starts.items c.args.full.now c.grow.new.bytes.items c.grow.new.starts.items c.self.invariant.1 (ap (λ n. n + 1024) c.self.invariant.0)
     (rw (← c.self.view_is) at c.requires.whole) (rw (← c.self.view_is) at c.requires.few) c.in_ok-grow.ensures.bytes c.in_ok-grow.ensures.starts in
-    rw (← c.self.view_is) (ap (encoding i.format i.width (reserve i.reserved_bytes i.reserved_count)) (stored_is i.format i.width c.grow.new.bytes.items c.self-2-1.given.0 (i.stored.0 ++ c.args.full.now) change.indexed.encoded))
+    rw (← c.self.view_is) (ap (encoding_of i.format i.width (reserve i.reserved_bytes i.reserved_count)) (stored_is i.format i.width c.grow.new.bytes.items c.self-2-1.given.0 (i.stored.0 ++ c.args.full.now) change.indexed.encoded))
 
 pub returns-in_err-grow-clause-sure : goal.returns-in_err-grow-clause-sure
 returns-in_err-grow-clause-sure c =
     let i = c.self.inside in
     let all = i.stored.0 ++ c.args.full.now in
-    let spelled = BlockOf-spelling (format_of i.format) i.width c.args.full.now (rw (← c.self.view_is) at c.requires.lawful) c.requires.full (rw (← c.self.view_is) at c.requires.fits) in
+    let encoded = BlockOf-encoding (format_of i.format) i.width c.args.full.now (rw (← c.self.view_is) at c.requires.lawful) c.requires.full (rw (← c.self.view_is) at c.requires.fits) in
     rw (← c.self.view_is) (λ (fits : front_size (format_of i.format) i.width all ≤ i.reserved_bytes) (few : length all ≤ i.reserved_count).
-    let room : RoomForBlock (length i.bytes.items) (length spelled.0) i.bytes.cap (length i.starts.items) i.starts.cap =
-    room_for_block (format_of i.format) i.width i.stored.0 i.bytes.items i.starts.items c.args.full.now spelled.0 i.reserved_bytes i.reserved_count i.bytes.cap i.starts.cap
-    c.self.invariant.1 (rw (← c.self.view_is) at c.requires.whole) spelled.1 fits few c.self.invariant.2 c.self.invariant.3 in
-    absurd (false≢true (c.in_err-grow.ensures.sure spelled.0 spelled.1 (omega (arith, room.bytes, i.bytes.ok.0)) (omega (arith, room.starts, i.starts.ok.0)))))
+    let room : RoomForBlock (length i.bytes.items) (length encoded.0) i.bytes.cap (length i.starts.items) i.starts.cap =
+    room_for_block (format_of i.format) i.width i.stored.0 i.bytes.items i.starts.items c.args.full.now encoded.0 i.reserved_bytes i.reserved_count i.bytes.cap i.starts.cap
+    c.self.invariant.1 (rw (← c.self.view_is) at c.requires.whole) encoded.1 fits few c.self.invariant.2 c.self.invariant.3 in
+    absurd (false≢true (c.in_err-grow.ensures.sure encoded.0 encoded.1 (omega (arith, room.bytes, i.bytes.ok.0)) (omega (arith, room.starts, i.starts.ok.0)))))

@@ -1,5 +1,5 @@
 use Rattle.std.proofs.Common.{◌≡◌, max, refl, ap, ap₂, ◌∙◌, ℕ, arith, rules}
-use Rattle.column_core.specs.Columns.{encoding, reserve}
+use Rattle.column_core.specs.Columns.{encoding_of, reserve}
 use Rattle.column_core.proofs.EncodedLemmas.{stored_is, change_is, unchanged, on_err}
 use Rattle.column_core.proofs.encodings.Encoded.reserve.Goals as goal
 
@@ -14,7 +14,7 @@ pub returns-in_err-make_room-clause-err : goal.returns-in_err-make_room-clause-e
 returns-in_err-make_room-clause-err c =
     let i = c.self.inside in
     let kept = unchanged i.format i.width i.count i.stored.0 i.bytes.items i.starts.items c.make_room.new.items.items i.starts.items c.self.invariant.1 c.self.invariant.0 c.make_room.ensures.items refl in
-    rw (← c.self.view_is) (on_err c.from_residual.result (ap (encoding i.format i.width (reserve i.reserved_bytes i.reserved_count)) (stored_is i.format i.width c.make_room.new.items.items c.in_err-make_room.self-1-own.given.0 i.stored.0 kept.indexed.encoded)))
+    rw (← c.self.view_is) (on_err c.from_residual.result (ap (encoding_of i.format i.width (reserve i.reserved_bytes i.reserved_count)) (stored_is i.format i.width c.make_room.new.items.items c.in_err-make_room.self-1-own.given.0 i.stored.0 kept.indexed.encoded)))
 
 pub invariant_of-self-in_err-make_room-2 : goal.invariant_of-self-in_err-make_room-2
 invariant_of-self-in_err-make_room-2 c =
@@ -27,7 +27,7 @@ pub returns-in_err-make_room-2-clause-err : goal.returns-in_err-make_room-2-clau
 returns-in_err-make_room-2-clause-err c =
     let i = c.self.inside in
     let kept = unchanged i.format i.width i.count i.stored.0 i.bytes.items i.starts.items c.make_room.new.items.items c.make_room-2.new.items.items c.self.invariant.1 c.self.invariant.0 c.make_room.ensures.items c.make_room-2.ensures.items in
-    rw (← c.self.view_is) (on_err c.from_residual-in_err-make_room-2.result (ap (encoding i.format i.width (reserve i.reserved_bytes i.reserved_count)) (stored_is i.format i.width c.make_room.new.items.items c.in_err-make_room-2.self-in-Break-branch-2-1-own.given.0 i.stored.0 kept.indexed.encoded)))
+    rw (← c.self.view_is) (on_err c.from_residual-in_err-make_room-2.result (ap (encoding_of i.format i.width (reserve i.reserved_bytes i.reserved_count)) (stored_is i.format i.width c.make_room.new.items.items c.in_err-make_room-2.self-in-Break-branch-2-1-own.given.0 i.stored.0 kept.indexed.encoded)))
 
 pub invariant_of-self-2 : goal.invariant_of-self-2
 invariant_of-self-2 c =
@@ -42,5 +42,5 @@ returns-clause-ok c =
     let kept = unchanged i.format i.width i.count i.stored.0 i.bytes.items i.starts.items c.make_room.new.items.items c.make_room-2.new.items.items c.self.invariant.1 c.self.invariant.0 c.make_room.ensures.items c.make_room-2.ensures.items in
     let bytes : c.max-bytes.result ≡ max i.reserved_bytes c.args.bytes = search rules in
     let count : c.max-count.result ≡ max i.reserved_count c.args.count = search rules in
-    rw (← c.self.view_is) (ap (encoding i.format i.width (reserve c.max-bytes.result c.max-count.result)) (stored_is i.format i.width c.make_room.new.items.items c.self-2-1.given.0 i.stored.0 kept.indexed.encoded)
-    ∙ ap₂ (λ (a b : ℕ). encoding i.format i.width (reserve a b) i.stored.0) bytes count)
+    rw (← c.self.view_is) (ap (encoding_of i.format i.width (reserve c.max-bytes.result c.max-count.result)) (stored_is i.format i.width c.make_room.new.items.items c.self-2-1.given.0 i.stored.0 kept.indexed.encoded)
+    ∙ ap₂ (λ (a b : ℕ). encoding_of i.format i.width (reserve a b) i.stored.0) bytes count)

@@ -1,5 +1,5 @@
 use Rattle.std.proofs.Common.{◌≡◌, ◌/◌, ◌<◌, length, ap, ◌∙◌, arith}
-use Rattle.definitions.specs.Blocks.{block_len}
+use Rattle.definitions_blocks.specs.Blocks.{block_len}
 use Rattle.column_core.proofs.EncodedLemmas.{length-block_at}
 use Rattle.column_core.proofs.gathers.Gather.value_in.Goals as goal
 

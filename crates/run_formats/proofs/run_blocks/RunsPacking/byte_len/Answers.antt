@@ -1,6 +1,6 @@
 use Rattle.std.proofs.Common.{◌+◌, ◌*◌, sym, ap, ◌∙◌}
-use Rattle.definitions.proofs.RunLaws.{IsRunsBlock-length}
+use Rattle.definitions_blocks.proofs.RunLaws.{IsRunsBlock-length}
 use Rattle.run_formats.proofs.run_blocks.RunsPacking.byte_len.Goals as goal
 
 pub returns : goal.returns
-returns c = λ bytes is. c.block_size.ensures ∙ ap (λ n. 2 + 10 * n) is.headed ∙ sym (IsRunsBlock-length is.values bytes is.spelled)
+returns c = λ bytes is. c.block_size.ensures ∙ ap (λ n. 2 + 10 * n) is.headed ∙ sym (IsRunsBlock-length is.values bytes is.encoded)

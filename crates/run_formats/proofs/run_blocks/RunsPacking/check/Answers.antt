@@ -1,6 +1,6 @@
 use Rattle.std.proofs.Common.{◌≡◌, ◌+◌, ◌*◌, map, take, sym, ap, ◌∙◌, subst, arith}
-use Rattle.definitions.specs.Runs.{run_values, IsRunsBlock}
-use Rattle.definitions.proofs.RunLaws.{AreOctets}
+use Rattle.definitions_blocks.specs.Runs.{run_values, IsRunsBlock}
+use Rattle.definitions_blocks.proofs.RunLaws.{AreOctets}
 use Rattle.run_formats.specs.Cells.{count_in, run_in, cells_in, BeginsWithRuns}
 use Rattle.run_formats.proofs.CellLaws.{FrontBlock, block_in_front, begins_with_block}
 use Rattle.run_formats.proofs.run_blocks.RunsPacking.check.Goals as goal
@@ -16,10 +16,10 @@ returns-in-Some c =
     let size : c.block_size.result ≡ 2 + 10 * count_in bytes = c.block_size.ensures ∙ ap (λ n. 2 + 10 * n) runs in
     record {
       values = values;
-      spelled = subst (λ n. IsRunsBlock values (take n bytes)) (sym size) front.block;
+      encoded = subst (λ n. IsRunsBlock values (take n bytes)) (sym size) front.block;
       headed = runs ∙ front.headed;
       within = omega (arith, begins.whole);
     }
 
 pub returns-in-None : goal.returns-in-None
-returns-in-None c = λ values spelling rest is e. c.in-None.ensures (begins_with_block values spelling rest c.args.bytes.now is e)
+returns-in-None c = λ values encoding rest is e. c.in-None.ensures (begins_with_block values encoding rest c.args.bytes.now is e)

@@ -1,20 +1,20 @@
 use Rattle.std.proofs.Common.{◌≡◌, ◌-◌, ◌++◌, length, drop, flat_map, sym, ap, ap₂, ◌∙◌, subst, arith, length-append}
 use Rattle.std.proofs.lemmas.List.{length-take, length-drop}
-use Rattle.definitions.specs.Runs.{two_bytes, run_bytes, run_count, IsRunsBlock}
-use Rattle.definitions.proofs.RunLaws.{runs_of, length-two_bytes, length-runs_of, IsRunsBlock-length, IsRunsBlock-spelling}
+use Rattle.definitions_blocks.specs.Runs.{two_bytes, run_bytes, run_count, IsRunsBlock}
+use Rattle.definitions_blocks.proofs.RunLaws.{runs_of, length-two_bytes, length-runs_of, IsRunsBlock-length, IsRunsBlock-encoding}
 use Rattle.run_formats.proofs.Writes.{both_parts}
 use Rattle.run_formats.proofs.run_blocks.RunsPacking.encode.Goals as goal
 
 pub slice_bounds-put_count-end : goal.slice_bounds-put_count-end
-slice_bounds-put_count-end c = omega (arith, IsRunsBlock-length c.args.full.now c.requires.spelled.0 c.requires.spelled.1, c.requires.spelled.2)
+slice_bounds-put_count-end c = omega (arith, IsRunsBlock-length c.args.full.now c.requires.encoded.0 c.requires.encoded.1, c.requires.encoded.2)
 
 pub slice_bounds-put_count-end-2 : goal.slice_bounds-put_count-end-2
 slice_bounds-put_count-end-2 c =
-    omega (arith, IsRunsBlock-length c.args.full.now c.requires.spelled.0 c.requires.spelled.1, c.requires.spelled.2, length-take 2 c.args.into.now)
+    omega (arith, IsRunsBlock-length c.args.full.now c.requires.encoded.0 c.requires.encoded.1, c.requires.encoded.2, length-take 2 c.args.into.now)
 
 pub put_count-requires : goal.put_count-requires
 put_count-requires c =
-    omega (arith, IsRunsBlock-length c.args.full.now c.requires.spelled.0 c.requires.spelled.1, c.requires.spelled.2, length-take 2 c.args.into.now)
+    omega (arith, IsRunsBlock-length c.args.full.now c.requires.encoded.0 c.requires.encoded.1, c.requires.encoded.2, length-take 2 c.args.into.now)
 
 pub slice_bounds-put_runs-start : goal.slice_bounds-put_runs-start
 slice_bounds-put_runs-start c =
@@ -30,8 +30,8 @@ put_runs-requires-clause-size c =
     let runs : length (runs_of c.as_slice.result.now) ≡ run_count c.args.full.now = ap (λ values. length (runs_of values)) c.as_slice.ensures.values ∙ length-runs_of c.args.full.now in
     omega (
       arith,
-      IsRunsBlock-length c.args.full.now c.requires.spelled.0 c.requires.spelled.1,
-      c.requires.spelled.2,
+      IsRunsBlock-length c.args.full.now c.requires.encoded.0 c.requires.encoded.1,
+      c.requires.encoded.2,
       ap length c.put_count.ensures,
       length-two_bytes c.args.runs,
       length-append c.put_count.new.into (drop 2 c.args.into.now),
@@ -46,4 +46,4 @@ returns c =
     let head : c.put_count.new.into ≡ two_bytes (length (runs_of values)) = c.put_count.ensures ∙ ap two_bytes (c.requires.headed ∙ sym (length-runs_of values)) in
     let body : c.put_runs.new.into ≡ flat_map run_bytes (runs_of values) = c.put_runs.ensures ∙ ap (λ list. flat_map run_bytes (runs_of list)) c.as_slice.ensures.values in
     let all = both_parts 2 c.args.into.now c.put_count.new.into c.put_runs.new.into (ap length c.put_count.ensures ∙ length-two_bytes c.args.runs) ∙ ap₂ (λ a b. a ++ b) head body in
-    subst (IsRunsBlock values) (sym all) (IsRunsBlock-spelling values c.requires.spelled.1.full)
+    subst (IsRunsBlock values) (sym all) (IsRunsBlock-encoding values c.requires.encoded.1.full)

@@ -1,6 +1,0 @@
-use Rattle.std.proofs.Common.{◌<◌, All}
-use Rattle.column_bench.proofs.reading.places_of.Given as goal
-
--- the places so far are below the count
-abbrev pub invariant-loop-step : goal.invariant-loop-step
-invariant-loop-step l = All (λ place. place < l.fn.count) l.places.items

@@ -1,0 +1,9 @@
+pub mod BitLaws
+pub mod WordLaws
+pub mod PrefixLaws
+pub mod PackedLaws
+pub mod EncodingLaws
+pub mod DifferenceLaws
+pub mod RunLaws
+pub mod BlockLaws
+pub mod WorkedExamples

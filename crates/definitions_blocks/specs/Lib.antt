@@ -1,0 +1,9 @@
+pub mod Words
+pub mod Columns
+pub mod Blocks
+pub mod Packed
+pub mod Differences
+pub mod Runs
+pub mod Encodings
+pub mod Formats
+pub mod Packings

@@ -1,0 +1,6 @@
+pub mod ColumnFileLaws
+pub mod PieceLaws
+pub mod WidthLaws
+pub mod FaultLaws
+pub mod SizeLaws
+pub mod WorkedExamples

@@ -1,0 +1,3 @@
+pub mod ColumnFiles
+pub mod FileFaults
+pub mod Sizes

@@ -1,0 +1,2 @@
+//! What operators compute on whole lists, with laws. There is no code.
+#![tactic(auto)]

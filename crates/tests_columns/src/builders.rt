@@ -1,0 +1,74 @@
+//! Columns that are built a value at a time.
+
+ghost use Rattle.std.specs.Prelude.{◌≡◌, ◌≤◌, length, IfOk};
+ghost use Rattle.definitions_blocks.specs.Columns.{max_rows};
+
+use crate::files::FORMATS;
+use crate::generic::push_all;
+use crate::shapes::Shape;
+use block_core::Format;
+use column_core::{Builder, Column, encode_list};
+use std::alloc::{AllocError, Global};
+use std::process::Abort;
+use std::test::Fail;
+
+// The column of the same list, format and width, whose values are pushed one by one through the bound of an emitter.
+fn built(alloc: Global, column: &Column, values: &[u64]) -> Result<Column, AllocError>
+    requires same { column.now.values ≡ values.now }
+    requires few { length values.now ≤ max_rows }
+    ensures { IfOk result (λ built. built ≡ column.now) }
+{
+    let mut builder = Builder::new(alloc, column.format(), column.static_width())?;
+    push_all(&mut builder, values)?;
+    builder.finish()
+}
+
+// The values are pushed into a builder of this format.
+fn expect_built(
+    rt: &impl Abort,
+    alloc: Global,
+    values: &[u64],
+    format: Format,
+) -> Result<(), AllocError>
+    requires few { length values.now ≤ max_rows }
+{
+    let column = encode_list(alloc, values, format)?;
+    let built = built(alloc, &column, values)?;
+    assert!(rt;
+        built.encoded() == column.encoded(),
+        "{} values in {format:?}",
+        values.len()
+    );
+    Ok(())
+}
+
+fn expect_built_in_every_format(
+    rt: &impl Abort,
+    alloc: Global,
+    shape: Shape,
+    count: u16,
+) -> Result<(), AllocError> {
+    let values = shape.values(alloc, count)?;
+    for format in FORMATS {
+        expect_built(rt, alloc, values.as_slice(), format)?;
+    }
+    Ok(())
+}
+
+#[test]
+fn values_pushed_one_by_one_give_the_file_of_the_list(rt: HostRuntime) -> Result<(), Fail> {
+    for shape in [
+        Shape::Cycling(5),
+        Shape::Falling { first: u64::MAX },
+        Shape::Stepped {
+            first: 1,
+            place: 1024,
+            then: u64::MAX,
+        },
+    ] {
+        for count in [0, 1, 1023, 1024, 1025, 2049u16] {
+            expect_built_in_every_format(&rt, rt.alloc(), shape, count)?;
+        }
+    }
+    Ok(())
+}
