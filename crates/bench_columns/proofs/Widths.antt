@@ -1,7 +1,7 @@
 -- A list's static width is lawful, and the list can be pushed at it.
 use Rattle.std.proofs.Common.{◌≡◌, ℕ, ◌+◌, ◌*◌, ◌/◌, ◌^◌, ◌<◌, true, List, [], ◌∷◌, ◌++◌, length, take, drop, get_or, refl, sym, subst, arith}
 use Rattle.std.proofs.lemmas.List.{take-append-drop, take_more, length-take, get_or-take}
-use Rattle.definitions_blocks.specs.Blocks.{block_len}
+use Rattle.definitions_blocks.specs.Blocks.{block_values}
 use Rattle.definitions_blocks.specs.Packed.{AreBelow, IsWidth}
 use Rattle.definitions_blocks.specs.Encodings.{width_of}
 use Rattle.definitions_blocks.specs.Formats.{Format, plain, static, dynamic, runs, delta1_dynamic, delta16_dynamic, reference_dynamic, delta1_runs, IsColumnWidth}
@@ -11,7 +11,7 @@ use Rattle.column_core.specs.Scopes.{HoldsOfPrefixes-fits_columns}
 
 whole_words : (values : List ℕ) → ((i : ℕ) → get_or values i 0 < 2 ^ 64) → AreBelow 64 (whole_blocks values)
 whole_words values words = λ i within.
-    let n = length values / block_len * block_len in
+    let n = length values / block_values * block_values in
     subst (λ v. v < 2 ^ 64) (sym (get_or-take n values i 0 (omega (arith, length-take n values)))) (words i)
 
 pub static_width_of-lawful : (format : Format) (values : List ℕ) → ((i : ℕ) → get_or values i 0 < 2 ^ 64) → IsColumnWidth format (static_width_of format values)

@@ -1,4 +1,4 @@
--- Each full block has a encoding in each format, and none is long.
+-- Each full block has an encoding in each format, and none is long.
 use Rattle.std.proofs.Common.{ℕ, ◌^◌, ◌<◌, ◌≤◌, List, ◌++◌, length, refl, arith, length-append}
 use Rattle.definitions_blocks.specs.Words.{word_bytes}
 use Rattle.definitions_blocks.specs.Blocks.{IsFull}
@@ -10,7 +10,7 @@ use Rattle.definitions_blocks.proofs.EncodingLaws.{AreBelow-words, width_of-narr
 use Rattle.definitions_blocks.proofs.RunLaws.{IsFull-run_count, IsRunsBlock-length, IsRunsBlock-encoding}
 use Rattle.definitions_blocks.proofs.DifferenceLaws.{first_of-word, least_of-word, delta1_of-full, delta16_of-full, reference_of-full}
 
--- a encoding of at most so many bytes
+-- an encoding of at most so many bytes
 record HasEncoding (most : ℕ) (encodes : List ℕ → List ℕ → Type 0) (values : List ℕ) : Type 0 where
   bytes : List ℕ
   short : length bytes ≤ most

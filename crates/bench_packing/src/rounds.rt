@@ -1,7 +1,7 @@
 //! Rounds over eight blocks.
 
 ghost use Rattle.std.specs.Prelude.{◌≡◌, ◌*◌, ◌^◌, ◌<◌, ◌≤◌, length};
-ghost use Rattle.definitions_blocks.specs.Blocks.{block_len};
+ghost use Rattle.definitions_blocks.specs.Blocks.{block_values};
 ghost use Rattle.definitions_blocks.specs.Packed.{AreBelow};
 
 use block_core::Block;
@@ -28,7 +28,7 @@ fn low_bits(value: u64, width: u8) -> u64
 /// Values below 2^width that differ from place to place.
 fn block_below(width: u8) -> Block
     requires { width ≤ 64 }
-    ensures whole { length result ≡ block_len }
+    ensures whole { length result ≡ block_values }
     ensures small { AreBelow width result }
 {
     let mut block = Block::new();

@@ -4,7 +4,7 @@ ghost use Rattle.std.specs.Prelude.{◌≡◌, ◌+◌, ◌<◌, ◌≤◌, ◌+
 ghost use Rattle.std.specs.List.{refill};
 ghost use Rattle.std.specs.Borrow.{Lends, sem, u64 as word, Array};
 ghost use Rattle.block_core.specs.contracts.blocks.Block.{the_row};
-ghost use Rattle.definitions_blocks.specs.Blocks.{block_len};
+ghost use Rattle.definitions_blocks.specs.Blocks.{block_values};
 
 use arrayvec::ArrayVec;
 use std::marker::Model;
@@ -48,7 +48,7 @@ impl Block {
 
     /// Appends a value. The block must not be full.
     pub fn push(&mut self, value: u64)
-        requires { length self.old < block_len }
+        requires { length self.old < block_values }
         ensures { self.new ≡ self.old ++ value ∷ [] }
     {
         self.values.push(value);
@@ -56,7 +56,7 @@ impl Block {
 
     /// Appends values, which must fit.
     pub fn append(&mut self, values: &[u64])
-        requires { length self.old + length values.now ≤ block_len }
+        requires { length self.old + length values.now ≤ block_values }
         ensures { self.new ≡ self.old ++ values.now }
     {
         let _fits = self.values.try_extend_from_slice(values);
@@ -64,7 +64,7 @@ impl Block {
 
     /// Makes the block full, whatever it holds, so that all of it can be written in place. On a full block it does nothing.
     pub fn fill(&mut self)
-        ensures { length self.new ≡ block_len }
+        ensures { length self.new ≡ block_values }
     {
         for _ in self.values.len()..BLOCK_LEN {
             self.values.push(0);
@@ -82,7 +82,7 @@ impl Block {
 
     pub fn as_slice(&self) -> &[u64]
         ensures values { result.now ≡ self.now }
-        ensures short { length result.now ≤ block_len }
+        ensures short { length result.now ≤ block_values }
     {
         self.values.as_slice()
     }

@@ -1,7 +1,7 @@
 //! Packings and transforms of full blocks.
 
 ghost use Rattle.std.specs.Prelude.{◌≡◌, ℕ, ◌^◌, ◌<◌, ◌↔◌, List, length, MatchOption, IsTrue};
-ghost use Rattle.definitions_blocks.specs.Blocks.{block_len};
+ghost use Rattle.definitions_blocks.specs.Blocks.{block_values};
 ghost use Rattle.definitions_blocks.specs.Packings.{IsPacking, NoBlock, BlockAt, IsBlock, IsTransform, IsSplit};
 
 use crate::Block;
@@ -22,7 +22,7 @@ pub trait Packing {
     ghost block_head: { Self.Param → List ℕ → Self.Head };
 
     fn head_of(param: Self::Param, full: &Block) -> Self::Head
-        requires { length full.now ≡ block_len }
+        requires { length full.now ≡ block_values }
         ensures { result ≡ block_head param full.now };
 
     /// How long the encoding of a block of this head is.
@@ -60,7 +60,7 @@ pub trait Transform {
 
     /// Leaves the block's differences in `into`, and gives its base.
     fn split(full: &Block, into: &mut Block) -> Self::Base
-        requires { length full.now ≡ block_len }
+        requires { length full.now ≡ block_values }
         ensures base { result ≡ base_of full.now }
         ensures differences { into.new ≡ differences_of full.now };
 

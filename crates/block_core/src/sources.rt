@@ -2,7 +2,7 @@
 
 ghost use Rattle.std.specs.Prelude.{◌≡◌, ℕ, ◌*◌, ◌<◌, ◌≤◌, List, length, slice_index};
 ghost use Rattle.definitions_blocks.specs.Columns.{max_rows};
-ghost use Rattle.definitions_blocks.specs.Blocks.{block_len, block_at};
+ghost use Rattle.definitions_blocks.specs.Blocks.{block_values, block_at};
 ghost use Rattle.block_core.specs.Counts.{next_count};
 
 use crate::{Block, Steps};
@@ -19,7 +19,7 @@ pub trait BlockSource {
 
     /// Leaves the values of the block of this number in `into`, at most 1,024. It takes one step.
     fn block<G>(&mut self, number: u64, into: &mut Block, steps: &mut Steps<G>)
-        requires { number * block_len < length (list self.old) }
+        requires { number * block_values < length (list self.old) }
         ensures values { into.new ≡ block_at (list self.old) number }
         ensures list { list self.new ≡ list self.old }
         ensures steps { steps.new ≡ next_count steps.old };

@@ -4,7 +4,7 @@ ghost use Rattle.std.specs.Prelude.{◌≡◌, ℕ, ◌+◌, ◌-◌, ◌*◌, �
 ghost use Rattle.std.specs.Int.{bit_at};
 ghost use Rattle.definitions_blocks.specs.Packed.{word_bit, AreBelow, IsPacked, IsWidth};
 
-/// The width of a 64-bit number, above which no block has a encoding.
+/// The width of a 64-bit number, above which no block has an encoding.
 pub const MAX_WIDTH: u8 = 64;
 
 /// How many words of a packed block stand side by side, one for each strand.

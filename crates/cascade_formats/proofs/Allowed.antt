@@ -2,7 +2,7 @@
 use Rattle.std.proofs.Common.{◌≡◌, ℕ, ◌+◌, ◌-◌, [], ◌∷◌, ◌^◌, ◌<◌, ◌≤◌, List, length, map, replicate, get_or, refl, sym, ap, ◌∙◌, subst, arith}
 use Rattle.std.specs.List.{refill}
 use Rattle.std.proofs.lemmas.List.{take_at, length-map}
-use Rattle.definitions_blocks.specs.Blocks.{IsFull, block_len}
+use Rattle.definitions_blocks.specs.Blocks.{IsFull, block_values}
 use Rattle.definitions_blocks.specs.Differences.{first_of, delta1_of, delta16_of, least_of, reference_of}
 use Rattle.definitions_blocks.proofs.DifferenceLaws.{sums_of, summed, delta1_of-gapped, delta1_of-full, delta1_of-first, delta16_of-full, gapped_first, raised, raised_is, reference_of-full, reference_of-zero, reference_of-small, least_of-at, least_of-le, full_from, gapped, length-gapped, sums_of-gapped, raised-reference_of}
 use Rattle.definitions_blocks.specs.Packings.{IsSplit}
@@ -12,7 +12,7 @@ delta1_split base ds word is zero =
     let s = summed 1 base ds (omega arith) word is zero in
     (sums_of ds (replicate 1 base), record { full = s.full; base_is = s.base_is; differences_are = s.differences_are ∙ sym (delta1_of-gapped _) })
 
-pub delta1_begins : (base : ℕ) (values ds : List ℕ) → IsSplit first_of delta1_of base values ds → (length ds ≡ block_len) × (get_or ds 0 0 ≡ 0)
+pub delta1_begins : (base : ℕ) (values ds : List ℕ) → IsSplit first_of delta1_of base values ds → (length ds ≡ block_values) × (get_or ds 0 0 ≡ 0)
 delta1_begins base values ds s =
     (ap length s.differences_are ∙ (delta1_of-full values s.full).whole, ap (λ l. get_or l 0 0) s.differences_are ∙ delta1_of-first values)
 
@@ -21,7 +21,7 @@ delta16_split base ds word is zero =
     let s = summed 16 base ds (omega arith) word is zero in
     (sums_of ds (replicate 16 base), record { full = s.full; base_is = s.base_is; differences_are = s.differences_are })
 
-pub delta16_begins : (base : ℕ) (values ds : List ℕ) → IsSplit first_of delta16_of base values ds → (length ds ≡ block_len) × (get_or ds 0 0 ≡ 0)
+pub delta16_begins : (base : ℕ) (values ds : List ℕ) → IsSplit first_of delta16_of base values ds → (length ds ≡ block_values) × (get_or ds 0 0 ≡ 0)
 delta16_begins base values ds s =
     (ap length s.differences_are ∙ (delta16_of-full values s.full).whole, ap (λ l. get_or l 0 0) s.differences_are ∙ gapped_first 16 values (omega arith))
 
@@ -48,15 +48,15 @@ reference_fits base values ds s i within =
 refill_is : (n : ℕ) (before written : List ℕ) → length written ≡ n → refill n before written ≡ written
 refill_is n before written same = take_at written _ n same
 
-pub gapped_written : (gap n : ℕ) (before written slice full : List ℕ) → n ≡ block_len → slice ≡ full → length full ≡ block_len → written ≡ gapped gap slice → refill n before written ≡ gapped gap full
+pub gapped_written : (gap n : ℕ) (before written slice full : List ℕ) → n ≡ block_values → slice ≡ full → length full ≡ block_values → written ≡ gapped gap slice → refill n before written ≡ gapped gap full
 gapped_written gap n before written slice full many same whole e =
     let made : written ≡ gapped gap full = e ∙ ap (gapped gap) same in
     refill_is n before written (omega (arith, ap length made, length-gapped gap full)) ∙ made
 
-pub delta1_written : (n : ℕ) (before written slice full : List ℕ) → n ≡ block_len → slice ≡ full → length full ≡ block_len → written ≡ gapped 1 slice → refill n before written ≡ delta1_of full
+pub delta1_written : (n : ℕ) (before written slice full : List ℕ) → n ≡ block_values → slice ≡ full → length full ≡ block_values → written ≡ gapped 1 slice → refill n before written ≡ delta1_of full
 delta1_written n before written slice full many same whole e = gapped_written 1 n before written slice full many same whole e ∙ sym (delta1_of-gapped full)
 
-pub reference_written : (n : ℕ) (before written slice full : List ℕ) → n ≡ block_len → slice ≡ full → length full ≡ block_len → written ≡ reference_of slice → refill n before written ≡ reference_of full
+pub reference_written : (n : ℕ) (before written slice full : List ℕ) → n ≡ block_values → slice ≡ full → length full ≡ block_values → written ≡ reference_of slice → refill n before written ≡ reference_of full
 reference_written n before written slice full many same whole e =
     let made : written ≡ reference_of full = e ∙ ap reference_of same in
     refill_is n before written (omega (arith, ap length made, length-map full (λ value. value - least_of full))) ∙ made

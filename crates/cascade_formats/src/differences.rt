@@ -1,7 +1,7 @@
 //! Differences to a value some places earlier, and the sums that undo them.
 
 ghost use Rattle.std.specs.Prelude.{◌≡◌, ℕ, ◌+◌, ◌*◌, ◌/◌, ◌%◌, ◌^◌, ◌<◌, ◌≤◌, ◌↔◌, ◌∷◌, [], IsTrue, length, replicate, slice_index};
-ghost use Rattle.definitions_blocks.specs.Blocks.{block_len, IsFull};
+ghost use Rattle.definitions_blocks.specs.Blocks.{block_values, IsFull};
 ghost use Rattle.definitions_blocks.specs.Differences.{first_of};
 ghost use Rattle.definitions_blocks.proofs.DifferenceLaws.{gapped, sums_of};
 
@@ -16,8 +16,8 @@ pub const STRANDS: usize = 16;
 pub fn subtract_earlier<const GAP: usize>(values: &[u64], into: &mut [u64]) -> u64
     requires some { 0 < GAP }
     requires few { GAP ≤ 16 }
-    requires whole { length values.now ≡ block_len }
-    requires room { length into.old ≡ block_len }
+    requires whole { length values.now ≡ block_values }
+    requires room { length into.old ≡ block_values }
     ensures base { result ≡ first_of values.now }
     ensures differences { into.new ≡ gapped GAP values.now }
 {
@@ -46,7 +46,7 @@ pub fn sum_up(base: u64, block: &mut [u64])
 /// Turns differences to the value 16 places earlier into the values. At a lane width `L` other than 1, 2, 4, 8 and 16 it works
 /// as at 1.
 pub fn sum_strands<const L: usize>(base: u64, block: &mut [u64])
-    requires { length block.old ≡ block_len }
+    requires { length block.old ≡ block_values }
     ensures { block.new ≡ sums_of block.old (replicate 16 base) }
 {
     match L {
@@ -62,7 +62,7 @@ pub fn sum_strands<const L: usize>(base: u64, block: &mut [u64])
 fn sum_rows<const L: usize>(base: u64, block: &mut [u64])
     requires few { L ≤ 16 }
     requires even { 16 / L * L ≡ 16 }
-    requires whole { length block.old ≡ block_len }
+    requires whole { length block.old ≡ block_values }
     ensures { block.new ≡ sums_of block.old (replicate 16 base) }
 {
     for place in 0..STRANDS {
@@ -78,7 +78,7 @@ fn sum_rows<const L: usize>(base: u64, block: &mut [u64])
 fn add_earlier<const L: usize>(block: &mut [u64], first: usize)
     requires few { L ≤ 16 }
     requires inside { first + 16 + L ≤ length block.old }
-    requires short { length block.old ≤ block_len }
+    requires short { length block.old ≤ block_values }
     ensures added { (lane : ℕ) → lane < L → slice_index block.new (first + 16 + lane) ≡ (slice_index block.old (first + 16 + lane) + slice_index block.old (first + lane)) % 2 ^ 64 }
     ensures below { (place : ℕ) → place < first + 16 → slice_index block.new place ≡ slice_index block.old place }
     ensures above { (place : ℕ) → first + 16 + L ≤ place → slice_index block.new place ≡ slice_index block.old place }
@@ -92,7 +92,7 @@ fn add_earlier<const L: usize>(block: &mut [u64], first: usize)
 
 /// Whether these are a block's worth and the first is 0.
 pub fn begin_at_zero(differences: &[u64]) -> bool
-    ensures { IsTrue result ↔ (length differences.now ≡ block_len) × (slice_index differences.now 0 ≡ 0) }
+    ensures { IsTrue result ↔ (length differences.now ≡ block_values) × (slice_index differences.now 0 ≡ 0) }
 {
     differences.len() == BLOCK_LEN && differences[0] == 0
 }

@@ -1,7 +1,7 @@
 //! Differences to the least value of the block, a frame of reference.
 
 ghost use Rattle.std.specs.Prelude.{◌≡◌, ℕ, ◌+◌, ◌^◌, ◌<◌, ◌≤◌, ◌↔◌, IsTrue, length, slice_index};
-ghost use Rattle.definitions_blocks.specs.Blocks.{block_len};
+ghost use Rattle.definitions_blocks.specs.Blocks.{block_values};
 ghost use Rattle.definitions_blocks.specs.Differences.{least_of, reference_of};
 ghost use Rattle.definitions_blocks.proofs.DifferenceLaws.{raised, reference_of-full, reference_of-join};
 
@@ -41,7 +41,7 @@ impl<const L: usize> Transform for Reference<L> {
 
 // Whether the least is 0, and the base can be added to each.
 fn can_be_raised(base: u64, differences: &[u64]) -> bool
-    requires { length differences.now ≡ block_len }
+    requires { length differences.now ≡ block_values }
     ensures { IsTrue result ↔ (least_of differences.now ≡ 0) × ((place : ℕ) → place < length differences.now → base + slice_index differences.now place < 2 ^ 64) }
 {
     let (zeros, bits) = zeros_and_bits(differences);
@@ -59,7 +59,7 @@ fn can_be_raised(base: u64, differences: &[u64]) -> bool
 
 // How many values are 0, and a number that has all their bits.
 fn zeros_and_bits(values: &[u64]) -> (u64, u64)
-    requires { length values.now ≡ block_len }
+    requires { length values.now ≡ block_values }
     ensures none { (result.0 ≡ 0) ↔ ((place : ℕ) → place < length values.now → 0 < slice_index values.now place) }
     ensures bits { (place : ℕ) → place < length values.now → slice_index values.now place ≤ result.1 }
 {

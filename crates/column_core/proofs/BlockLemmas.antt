@@ -3,7 +3,7 @@ use Rattle.std.proofs.Common.{◌≡◌, ℕ, zero, suc, ◌+◌, ◌-◌, ◌*�
 use Rattle.std.specs.Int.{from_le_bytes, w64}
 use Rattle.std.proofs.lemmas.List.{drop_at, get_or-append_right}
 use Rattle.definitions_blocks.specs.Words.{word_bytes}
-use Rattle.definitions_blocks.specs.Blocks.{block_len, IsFull}
+use Rattle.definitions_blocks.specs.Blocks.{block_values, IsFull}
 use Rattle.definitions_blocks.specs.Differences.{delta16_of, first_of, least_of, reference_of}
 use Rattle.definitions_blocks.specs.Encodings.{IsCascade}
 use Rattle.definitions_blocks.specs.Formats.{Format, BlockOf}
@@ -11,7 +11,7 @@ use Rattle.definitions_blocks.proofs.WordLaws.{length-word_bytes}
 use Rattle.definitions_blocks.proofs.BlockLaws.{BlockOf-short, IsCascade-base}
 use Rattle.definitions_blocks.proofs.DifferenceLaws.{delta16_of-early, delta16_of-late, first_of-word, least_of-le, reference_of-at, words_at}
 
--- a encoding is short
+-- an encoding is short
 pub sized : (format : Format) (width : ℕ) (values : List ℕ) → (bytes : List ℕ) × BlockOf format width values bytes → (bytes : List ℕ) × (length bytes < 2 ^ 32) × BlockOf format width values bytes
 sized format width values s = (s.0, omega (arith, BlockOf-short format width values s.0 s.1), s.1)
 
@@ -35,7 +35,7 @@ inside base_of differences_of encodes values bytes is =
     }
 
 -- a value is the least one and its difference to it
-pub lowered : (values : List ℕ) (place : ℕ) → IsFull values → place < block_len → least_of values + get_or (reference_of values) place 0 ≡ get_or values place 0
+pub lowered : (values : List ℕ) (place : ℕ) → IsFull values → place < block_values → least_of values + get_or (reference_of values) place 0 ≡ get_or values place 0
 lowered values place is within =
     let at = reference_of-at values place (omega (arith, is.whole)) in
     let low = least_of-le values place (omega (arith, is.whole)) in
@@ -47,7 +47,7 @@ before_row values strand zero = first_of values
 before_row values strand (suc row) = get_or values (row * 16 + strand) 0
 
 -- a value of a row is the one before it and its difference
-pub row_value : (values : List ℕ) (strand row : ℕ) → IsFull values → strand < 16 → row * 16 + strand < block_len
+pub row_value : (values : List ℕ) (strand row : ℕ) → IsFull values → strand < 16 → row * 16 + strand < block_values
     → (before_row values strand row + get_or (delta16_of values) (row * 16 + strand) 0) % 2 ^ 64 ≡ get_or values (row * 16 + strand) 0
 row_value values strand zero is early within =
     let place : zero * 16 + strand ≡ strand = omega arith in

@@ -1,7 +1,7 @@
 -- The blocks of a list, as they are encoded one after the other.
 use Rattle.std.proofs.Common.{◌≡◌, ℕ, ◌+◌, ◌*◌, ◌/◌, ◌^◌, ◌<◌, ◌≤◌, List, length, take, drop, get_or, refl, sym, ap, ◌∙◌, subst, arith}
 use Rattle.std.proofs.lemmas.List.{take-take, length-take, get_or-take, get_or-drop}
-use Rattle.definitions_blocks.specs.Blocks.{block_len}
+use Rattle.definitions_blocks.specs.Blocks.{block_values}
 use Rattle.definitions_blocks.specs.Packed.{AreBelow, IsWidth}
 use Rattle.definitions_blocks.specs.Encodings.{width_of}
 use Rattle.definitions_blocks.specs.Formats as columns
@@ -11,11 +11,11 @@ use Rattle.definitions_blocks.proofs.EncodingLaws.{IsWidth-width_of}
 
 -- how many values the whole blocks have
 abbrev pub whole_count : List ℕ → ℕ
-whole_count values = length values / block_len * block_len
+whole_count values = length values / block_values * block_values
 
 whole_blocks-whole : (values : List ℕ) → whole_blocks (take (whole_count values) values) ≡ whole_blocks values
 whole_blocks-whole values =
-    let all : length (take (whole_count values) values) / block_len * block_len ≡ whole_count values = omega (arith, length-take (whole_count values) values) in
+    let all : length (take (whole_count values) values) / block_values * block_values ≡ whole_count values = omega (arith, length-take (whole_count values) values) in
     ap (λ n. take n (take (whole_count values) values)) all ∙ take-take (whole_count values) (whole_count values) values (omega arith)
 
 -- the static width of a list is that of its whole blocks
@@ -29,11 +29,11 @@ static_width_of-whole columns.delta16_dynamic values = refl
 static_width_of-whole columns.reference_dynamic values = refl
 static_width_of-whole columns.delta1_runs values = refl
 
-AreBelow-block : (width at : ℕ) (values : List ℕ) → at + block_len ≤ whole_count values → AreBelow width (whole_blocks values) → AreBelow width (take block_len (drop at values))
+AreBelow-block : (width at : ℕ) (values : List ℕ) → at + block_values ≤ whole_count values → AreBelow width (whole_blocks values) → AreBelow width (take block_values (drop at values))
 AreBelow-block width at values inner small = λ i within.
-    let early : i < block_len = omega (arith, length-take block_len (drop at values)) in
-    let here : get_or (take block_len (drop at values)) i 0 ≡ get_or (whole_blocks values) (at + i) 0 =
-    get_or-take block_len (drop at values) i 0 early ∙ get_or-drop at values i 0 ∙ sym (get_or-take (whole_count values) values (at + i) 0 (omega arith)) in
+    let early : i < block_values = omega (arith, length-take block_values (drop at values)) in
+    let here : get_or (take block_values (drop at values)) i 0 ≡ get_or (whole_blocks values) (at + i) 0 =
+    get_or-take block_values (drop at values) i 0 early ∙ get_or-drop at values i 0 ∙ sym (get_or-take (whole_count values) values (at + i) 0 (omega arith)) in
     subst (λ v. v < 2 ^ width) (sym here) (small (at + i) (omega (arith, length-take (whole_count values) values)))
 
 whole_words : (values : List ℕ) → ((i : ℕ) → get_or values i 0 < 2 ^ 64) → AreBelow 64 (whole_blocks values)
@@ -41,8 +41,8 @@ whole_words values words = λ i within.
     subst (λ v. v < 2 ^ 64) (sym (get_or-take (whole_count values) values i 0 (omega (arith, length-take (whole_count values) values)))) (words i)
 
 -- a block of a list fits the list's static width
-pub block_fits : (format : columns.Format) (at : ℕ) (values : List ℕ) → at + block_len ≤ whole_count values → ((i : ℕ) → get_or values i 0 < 2 ^ 64)
-    → FitsFormat format (static_width_of format values) (take block_len (drop at values))
+pub block_fits : (format : columns.Format) (at : ℕ) (values : List ℕ) → at + block_values ≤ whole_count values → ((i : ℕ) → get_or values i 0 < 2 ^ 64)
+    → FitsFormat format (static_width_of format values) (take block_values (drop at values))
 block_fits columns.plain at values inner words = tt
 block_fits columns.static at values inner words =
     let is : IsWidth (width_of (whole_blocks values)) (whole_blocks values) = IsWidth-width_of (whole_blocks values) (whole_words values words) in

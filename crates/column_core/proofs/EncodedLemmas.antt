@@ -5,7 +5,7 @@ use Rattle.std.specs.Simd.{first_chunks}
 use Rattle.std.proofs.lemmas.Bool.{cases_lt}
 use Rattle.std.proofs.lemmas.List.{take_at, drop_at, length-take, length-drop, get_or-take, get_or-drop}
 use Rattle.definitions_blocks.proofs.WordLaws.{length-word_bytes, from_le_bytes-word_bytes}
-use Rattle.definitions_blocks.specs.Blocks.{block_len, block_at}
+use Rattle.definitions_blocks.specs.Blocks.{block_values, block_at}
 use Rattle.definitions_blocks.specs.Columns.{max_rows}
 use Rattle.definitions_columns.specs.ColumnFiles.{column_head, piece_bytes, IsEncoded, IsIndexed}
 use Rattle.definitions_blocks.specs.Words.{word_bytes, words_of}
@@ -35,8 +35,8 @@ pub record BlockSpan (format : columns.Format) (width : ℕ) (values bytes : Lis
   pub within : end ≤ length bytes
   pub encoded : BlockOf format width (block_at values block) (take (end - start) (drop start bytes))
 
-pub block_span : (format : columns.Format) (width : ℕ) (values bytes starts : List ℕ) (block tail start end : ℕ) → IsIndexed format width values bytes starts → block < length values / block_len
-    → tail ≡ 8 * (length values % block_len) → start ≡ get_or starts block 0 → (block + 1 < length starts → end ≡ get_or starts (block + 1) 0) → (length starts ≤ block + 1 → end ≡ length bytes - tail)
+pub block_span : (format : columns.Format) (width : ℕ) (values bytes starts : List ℕ) (block tail start end : ℕ) → IsIndexed format width values bytes starts → block < length values / block_values
+    → tail ≡ 8 * (length values % block_values) → start ≡ get_or starts block 0 → (block + 1 < length starts → end ≡ get_or starts (block + 1) 0) → (length starts ≤ block + 1 → end ≡ length bytes - tail)
     → BlockSpan format width values bytes block start end
 block_span format width values bytes starts block tail start end is inner tails begin next last =
     let at : BlockPlace format width values bytes starts block = block_place format width values bytes starts block is inner in
@@ -65,22 +65,22 @@ pub record IsChange (format : Format) (width count : ℕ) (bytes starts : List �
   pub counted : count ≡ length values
 
 -- what an encoding_of becomes by a block
-pub pushed : (format : Format) (width count : ℕ) (values before begun block bytes starts : List ℕ) → IsIndexed (format_of format) width values before begun → count ≡ length values + block_len
-    → length values % block_len ≡ 0 → length values + block_len ≤ max_rows
+pub pushed : (format : Format) (width count : ℕ) (values before begun block bytes starts : List ℕ) → IsIndexed (format_of format) width values before begun → count ≡ length values + block_values
+    → length values % block_values ≡ 0 → length values + block_values ≤ max_rows
     → (encoding : List ℕ) × BlockOf (format_of format) width block encoding × (bytes ≡ with_count count (before ++ encoding)) → starts ≡ begun ++ length before ∷ []
     → IsChange format width count bytes starts (values ++ block)
 pushed format width count values before begun block bytes starts is counted whole few encoded begins =
     let step = IsIndexed-push (format_of format) width values before begun block encoded.0 is whole few encoded.1 in
-    let made : with_count (length values + block_len) (before ++ encoded.0) ≡ bytes = ap (λ n. with_count n (before ++ encoded.0)) (sym counted) ∙ sym encoded.2 in
+    let made : with_count (length values + block_values) (before ++ encoded.0) ≡ bytes = ap (λ n. with_count n (before ++ encoded.0)) (sym counted) ∙ sym encoded.2 in
     record {
       indexed = subst (λ l. IsIndexed (format_of format) width (values ++ block) l starts) made
-          (subst (IsIndexed (format_of format) width (values ++ block) (with_count (length values + block_len) (before ++ encoded.0))) (sym begins) step);
+          (subst (IsIndexed (format_of format) width (values ++ block) (with_count (length values + block_values) (before ++ encoded.0))) (sym begins) step);
       counted = counted ∙ omega (arith, length-append values block, (BlockOf-full (format_of format) width block encoded.0 encoded.1).whole);
     }
 
 -- what an encoding_of becomes by its tail
 pub tailed : (format : Format) (width count : ℕ) (values before begun tail bytes : List ℕ) → IsIndexed (format_of format) width values before begun → count ≡ length values + length tail
-    → length values % block_len ≡ 0 → length values + length tail ≤ max_rows → length tail < block_len → ((i : ℕ) → get_or tail i 0 < 2 ^ 64) → bytes ≡ with_count count (before ++ words_of tail)
+    → length values % block_values ≡ 0 → length values + length tail ≤ max_rows → length tail < block_values → ((i : ℕ) → get_or tail i 0 < 2 ^ 64) → bytes ≡ with_count count (before ++ words_of tail)
     → IsChange format width count bytes begun (values ++ tail)
 tailed format width count values before begun tail bytes is counted whole few short words are =
     let step = IsIndexed-tail (format_of format) width values before begun tail is whole few short (words_from tail words) in
@@ -149,11 +149,11 @@ as_read format read width wide values bytes owned starts begun formats widths ow
     (subst (IsIndexed (format_of format) width values bytes) (sym begins) is)))
 
 -- A whole block of a list, and its values.
-pub length-block_at : (values : List ℕ) (number : ℕ) → number < length values / block_len → length (block_at values number) ≡ block_len
-length-block_at values number whole = omega (arith, length-take block_len (drop (number * block_len) values), length-drop (number * block_len) values)
+pub length-block_at : (values : List ℕ) (number : ℕ) → number < length values / block_values → length (block_at values number) ≡ block_values
+length-block_at values number whole = omega (arith, length-take block_values (drop (number * block_values) values), length-drop (number * block_values) values)
 
-pub block_at-index : (values : List ℕ) (place : ℕ) → get_or (block_at values (place / block_len)) (place % block_len) 0 ≡ get_or values place 0
+pub block_at-index : (values : List ℕ) (place : ℕ) → get_or (block_at values (place / block_values)) (place % block_values) 0 ≡ get_or values place 0
 block_at-index values place =
-    let sum : place / block_len * block_len + place % block_len ≡ place = omega arith in
-    get_or-take block_len (drop (place / block_len * block_len) values) (place % block_len) 0 (omega arith)
-    ∙ get_or-drop (place / block_len * block_len) values (place % block_len) 0 ∙ ap (λ n. get_or values n 0) sum
+    let sum : place / block_values * block_values + place % block_values ≡ place = omega arith in
+    get_or-take block_values (drop (place / block_values * block_values) values) (place % block_values) 0 (omega arith)
+    ∙ get_or-drop (place / block_values * block_values) values (place % block_values) 0 ∙ ap (λ n. get_or values n 0) sum

@@ -3,7 +3,7 @@
 ghost use Rattle.std.specs.Prelude.{◌≡◌, ◌+◌, ◌<◌, ◌≤◌, ℕ, List, length, take, drop, slice_index};
 ghost use Rattle.std.specs.Int.{from_le_bytes, w16, w64};
 ghost use Rattle.definitions_blocks.specs.Encodings.{IsPlainBlock, IsDynamicBlock, IsCascade};
-ghost use Rattle.definitions_blocks.specs.Blocks.{block_len};
+ghost use Rattle.definitions_blocks.specs.Blocks.{block_values};
 ghost use Rattle.definitions_blocks.specs.Differences.{delta16_of, first_of, least_of, reference_of};
 ghost use Rattle.definitions_blocks.specs.Runs.{IsRunsBlock};
 
@@ -57,7 +57,7 @@ pub fn decode_delta_runs<T: Transform<Base = u64>>(bytes: &[u8], into: &mut Bloc
 /// A value of a block that is packed at its own width.
 pub fn pick_dynamic(bytes: &[u8], place: usize) -> u64
     requires encoded { (values : List ℕ) × IsDynamicBlock values bytes.now }
-    requires within { place < block_len }
+    requires within { place < block_values }
     ensures { (values : List ℕ) → IsDynamicBlock values bytes.now → result ≡ slice_index values place }
 {
     strand_pack::pick(&bytes[1..], bytes[0], place)
@@ -66,7 +66,7 @@ pub fn pick_dynamic(bytes: &[u8], place: usize) -> u64
 /// A value of a block of differences to the least value, which are packed at their own width.
 pub fn pick_reference(bytes: &[u8], place: usize) -> u64
     requires encoded { (values : List ℕ) × IsCascade least_of reference_of IsDynamicBlock values bytes.now }
-    requires within { place < block_len }
+    requires within { place < block_values }
     ensures { (values : List ℕ) → IsCascade least_of reference_of IsDynamicBlock values bytes.now → result ≡ slice_index values place }
 {
     base_of(bytes).wrapping_add(pick_dynamic(differences_in(bytes), place))
@@ -76,7 +76,7 @@ pub fn pick_reference(bytes: &[u8], place: usize) -> u64
 /// differences of its strand, 64 at most.
 pub fn pick_delta16(bytes: &[u8], place: usize) -> u64
     requires encoded { (values : List ℕ) × IsCascade first_of delta16_of IsDynamicBlock values bytes.now }
-    requires within { place < block_len }
+    requires within { place < block_values }
     ensures { (values : List ℕ) → IsCascade first_of delta16_of IsDynamicBlock values bytes.now → result ≡ slice_index values place }
 {
     let differences = differences_in(bytes);

@@ -2,7 +2,7 @@
 
 ghost use Rattle.std.specs.Prelude.{◌≡◌, ◌+◌, ◌<◌, ◌≤◌, ◌++◌, ◌^◌, ℕ, List, length, take, slice_index, OnOk, OnErr, IsOk, IfSome, MatchOption, vec_len};
 ghost use Rattle.std.specs.Vec.{vec_capacity};
-ghost use Rattle.definitions_blocks.specs.Blocks.{block_len};
+ghost use Rattle.definitions_blocks.specs.Blocks.{block_values};
 ghost use Rattle.definitions_blocks.specs.Formats.{BlockOf, IsColumnWidth, LacksBlock, BeginsWith, BeginsWithBlock};
 ghost use Rattle.block_core.specs.Formats.{format_of};
 ghost use Rattle.definitions_blocks.specs.Packings.{NoBlock};
@@ -99,7 +99,7 @@ pub(crate) fn pick_value(
     place: usize,
 ) -> Option<u64>
     requires encoded { (values : List ℕ) × BlockOf (format_of format) static_width values bytes.now }
-    requires within { place < block_len }
+    requires within { place < block_values }
     ensures { (values : List ℕ) → BlockOf (format_of format) static_width values bytes.now →
         IfSome result (λ value. value ≡ slice_index values place) }
 {

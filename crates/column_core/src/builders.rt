@@ -1,7 +1,7 @@
 //! Columns built from values: one by one, or from a list.
 
 ghost use Rattle.std.specs.Prelude.{◌≡◌, ◌+◌, ◌%◌, ◌<◌, ◌≤◌, ◌++◌, ◌∷◌, [], ◌^◌, ℕ, length, take, drop, slice_index, max, true, IsOk, IfOk, OnOk, OnErr};
-ghost use Rattle.definitions_blocks.specs.Blocks.{block_len, IsFull};
+ghost use Rattle.definitions_blocks.specs.Blocks.{block_values, IsFull};
 ghost use Rattle.definitions_blocks.specs.Columns.{max_rows};
 ghost use Rattle.definitions_blocks.specs.Formats.{IsColumnWidth, FitsFormat};
 ghost use Rattle.definitions_columns.specs.ColumnFiles.{fits_columns, static_width_of};
@@ -149,7 +149,7 @@ impl Emit for Builder {
 
 /// Encodes a full block, and empties it. An `Err` changes nothing.
 fn flush(encoded: &mut Encoded, block: &mut Block) -> Result<(), AllocError>
-    requires full { length block.old ≡ block_len }
+    requires full { length block.old ≡ block_values }
     requires building { IsBuilding encoded.old.format encoded.old.width encoded.old.values block.old }
     ensures ok { OnOk result (encoded.new ≡ encoding_of encoded.old.format encoded.old.width encoded.old.reserve (encoded.old.values ++ block.old)) }
     ensures emptied { OnOk result (block.new ≡ []) }
@@ -188,7 +188,7 @@ fn rest_from(values: &[u64], place: usize) -> &[u64]
 
 /// The width of a column with these whole blocks.
 fn least_width(format: Format, whole: &[u64]) -> u8
-    requires { length whole.now % block_len ≡ 0 }
+    requires { length whole.now % block_values ≡ 0 }
     ensures width { result ≡ static_width_of (format_of format) whole.now }
     ensures lawful { IsColumnWidth (format_of format) result }
 {
@@ -200,8 +200,8 @@ fn least_width(format: Format, whole: &[u64]) -> u8
 
 /// Makes a full block the values.
 fn fill_from(block: &mut Block, values: &[u64])
-    requires full { length block.old ≡ block_len }
-    requires whole { length values.now ≡ block_len }
+    requires full { length block.old ≡ block_values }
+    requires whole { length values.now ≡ block_values }
     ensures same { block.new ≡ values.now }
     ensures full { IsFull block.new }
 {

@@ -2,7 +2,7 @@
 
 ghost use Rattle.std.specs.Prelude.{◌≡◌, ◌+◌, ◌*◌, ◌/◌, ◌%◌, ◌<◌, ◌≤◌, ℕ, List as Items, length, slice_index, take, drop, true, IfSome};
 ghost use Rattle.std.specs.Int.{from_le_bytes, w64};
-ghost use Rattle.definitions_blocks.specs.Blocks.{block_len, block_at};
+ghost use Rattle.definitions_blocks.specs.Blocks.{block_values, block_at};
 ghost use Rattle.definitions_blocks.specs.Columns.{max_rows};
 ghost use Rattle.definitions_blocks.specs.Formats.{plain, BlockOf, IsColumnWidth};
 ghost use Rattle.definitions_columns.specs.ColumnFiles.{IsColumnFile, IsIndexed, fits_columns, static_width_of};
@@ -52,7 +52,7 @@ impl Column {
         }
     }
 
-    /// The column of an encoding_of whose width is the least.
+    /// The column of an encoding whose width is the least.
     pub(crate) fn from_encoded(encoded: Encoded) -> Column
         requires { encoded.width ≡ static_width_of (format_of encoded.format) encoded.values }
         ensures { result ≡ shape encoded.format encoded.values }
@@ -93,7 +93,7 @@ impl Column {
 
     /// The encoding of a whole block.
     pub fn block_bytes(&self, block: u64) -> &[u8]
-        requires { block < length self.now.values / block_len }
+        requires { block < length self.now.values / block_values }
         ensures { BlockOf (format_of self.now.format) (static_width_of (format_of self.now.format) self.now.values)
             (block_at self.now.values block) result.now }
     {
@@ -102,15 +102,15 @@ impl Column {
 
     /// A value after the last whole block, by its place there.
     pub fn tail_value(&self, place: u64) -> u64
-        requires { place < length self.now.values % block_len }
-        ensures { result ≡ slice_index self.now.values (length self.now.values / block_len * block_len + place) }
+        requires { place < length self.now.values % block_values }
+        ensures { result ≡ slice_index self.now.values (length self.now.values / block_values * block_values + place) }
     {
         word_at(self.encoded.tail_bytes(), place as usize)
     }
 
     /// Leaves the values of a block in `into`, the last of which may be the tail.
     pub(crate) fn read_block<const L: usize>(&self, number: u64, into: &mut Block)
-        requires { number * block_len < length self.now.values }
+        requires { number * block_values < length self.now.values }
         ensures { into.new ≡ block_at self.now.values number }
     {
         if number < self.whole_blocks() {
@@ -133,8 +133,8 @@ impl Column {
 
     /// A value of a whole block, without opening the block, in the formats where that is cheap.
     pub(crate) fn pick(&self, number: u64, place: u64) -> Option<u64>
-        requires whole { number < length self.now.values / block_len }
-        requires within { place < block_len }
+        requires whole { number < length self.now.values / block_values }
+        requires within { place < block_values }
         ensures { IfSome result (λ value. value ≡ slice_index (block_at self.now.values number) place) }
     {
         pick_value(
@@ -147,7 +147,7 @@ impl Column {
 
     /// How many whole blocks there are.
     pub(crate) fn whole_blocks(&self) -> u64
-        ensures { result ≡ length self.now.values / block_len }
+        ensures { result ≡ length self.now.values / block_values }
     {
         self.count() / BLOCK_LEN as u64
     }

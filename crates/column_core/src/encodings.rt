@@ -3,7 +3,7 @@
 ghost use Rattle.std.specs.Prelude.{◌≡◌, ◌+◌, ◌*◌, ◌/◌, ◌%◌, ◌<◌, ◌≤◌, ◌++◌, ◌∷◌, [], ℕ, List as Items, length, take, drop, ◌-◌, OnOk, OnErr, IsOk, IfOk, max, vec_len};
 ghost use Rattle.std.specs.Vec.{vec_capacity};
 ghost use Rattle.std.specs.List.{AllByRecursion};
-ghost use Rattle.definitions_blocks.specs.Blocks.{block_len, block_at, IsFull};
+ghost use Rattle.definitions_blocks.specs.Blocks.{block_values, block_at, IsFull};
 ghost use Rattle.definitions_blocks.specs.Columns.{IsColumn, max_rows};
 ghost use Rattle.definitions_blocks.specs.Words.{IsWord, words_of};
 ghost use Rattle.definitions_blocks.specs.Formats as columns;
@@ -38,7 +38,7 @@ pub struct Encoded {
 impl Model for Encoded {
     ghost use Rattle.std.specs.Prelude.{◌≡◌, ◌≤◌, ◌/◌, length};
     ghost use Rattle.std.specs.Vec.{vec_capacity};
-    ghost use Rattle.definitions_blocks.specs.Blocks.{block_len};
+    ghost use Rattle.definitions_blocks.specs.Blocks.{block_values};
     ghost use Rattle.definitions_columns.specs.ColumnFiles.{IsIndexed};
     ghost use Rattle.block_core.specs.Formats.{format_of};
     ghost use Rattle.column_core.specs.Columns.{Encoding, encoding_of, reserve};
@@ -50,7 +50,7 @@ impl Model for Encoded {
     ghost invariant = { λ encoded. (encoded.count ≡ length encoded.stored.0)
         × IsIndexed (format_of encoded.format) encoded.width encoded.stored.0 encoded.bytes.items encoded.starts.items
         × (encoded.reserved_bytes ≤ vec_capacity encoded.bytes)
-        × (encoded.reserved_count / block_len ≤ vec_capacity encoded.starts) };
+        × (encoded.reserved_count / block_values ≤ vec_capacity encoded.starts) };
 }
 
 impl Encoded {
@@ -132,7 +132,7 @@ impl Encoded {
 
     /// The encoding of a whole block.
     pub fn block_bytes(&self, block: u64) -> &[u8]
-        requires { block < length self.now.values / block_len }
+        requires { block < length self.now.values / block_values }
         ensures { BlockOf (format_of self.now.format) self.now.width (block_at self.now.values block) result.now }
     {
         block_part(
@@ -145,17 +145,17 @@ impl Encoded {
 
     /// The words of the values after the last whole block.
     pub fn tail_bytes(&self) -> &[u8]
-        ensures bytes { result.now ≡ words_of (block_at self.now.values (length self.now.values / block_len)) }
-        ensures words { AllByRecursion IsWord (block_at self.now.values (length self.now.values / block_len)) }
-        ensures few { length (block_at self.now.values (length self.now.values / block_len)) ≡ length self.now.values % block_len }
+        ensures bytes { result.now ≡ words_of (block_at self.now.values (length self.now.values / block_values)) }
+        ensures words { AllByRecursion IsWord (block_at self.now.values (length self.now.values / block_values)) }
+        ensures few { length (block_at self.now.values (length self.now.values / block_values)) ≡ length self.now.values % block_values }
     {
         tail_part(self.bytes.as_slice(), tail_size(self.count))
     }
 
     /// Appends a whole block to whole blocks. An `Err` changes nothing.
     pub fn push_block(&mut self, full: &Block) -> Result<(), AllocError>
-        requires whole { length self.old.values % block_len ≡ 0 }
-        requires few { length self.old.values + block_len ≤ max_rows }
+        requires whole { length self.old.values % block_values ≡ 0 }
+        requires few { length self.old.values + block_values ≤ max_rows }
         requires lawful { IsColumnWidth (format_of self.old.format) self.old.width }
         requires full { IsFull full.now }
         requires fits { FitsFormat (format_of self.old.format) self.old.width full.now }
@@ -179,9 +179,9 @@ impl Encoded {
 
     /// Appends the values after the last whole block. An `Err` changes nothing.
     pub fn push_tail(&mut self, tail: &[u64]) -> Result<(), AllocError>
-        requires whole { length self.old.values % block_len ≡ 0 }
+        requires whole { length self.old.values % block_values ≡ 0 }
         requires few { length self.old.values + length tail.now ≤ max_rows }
-        requires short { length tail.now < block_len }
+        requires short { length tail.now < block_values }
         ensures ok { OnOk result (self.new ≡ encoding_of self.old.format self.old.width self.old.reserve (self.old.values ++ tail.now)) }
         ensures err { OnErr result (self.new ≡ self.old) }
         ensures sure { file_size (format_of self.old.format) self.old.width (self.old.values ++ tail.now) ≤ self.old.reserve.bytes → IsOk result }
@@ -256,7 +256,7 @@ fn make_room<T>(items: &mut Vec<T>, wanted: usize) -> Result<(), AllocError>
 /// The encoding of a whole block, which ends where the next one starts or the tail of so many bytes.
 fn block_part<'a>(bytes: &'a [u8], starts: &[u64], block: usize, tail: usize) -> &'a [u8]
     requires { (format : columns.Format) × (width : ℕ) × (values : Items ℕ) × IsIndexed format width values bytes.now starts.now
-        × (block < length values / block_len) × (tail ≡ 8 * (length values % block_len)) }
+        × (block < length values / block_values) × (tail ≡ 8 * (length values % block_values)) }
     ensures { (format : columns.Format) (width : ℕ) (values : Items ℕ) → IsIndexed format width values bytes.now starts.now →
         BlockOf format width (block_at values block) result.now }
 {
@@ -287,7 +287,7 @@ fn part(bytes: &[u8], start: usize, end: usize) -> &[u8]
 
 /// How many bytes the values after the last whole block take.
 fn tail_size(count: u64) -> usize
-    ensures { result ≡ 8 * (count % block_len) }
+    ensures { result ≡ 8 * (count % block_values) }
 {
     8 * (count as usize % BLOCK_LEN)
 }

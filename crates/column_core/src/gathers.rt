@@ -1,7 +1,7 @@
 //! A column of which values are looked up by their places.
 
 ghost use Rattle.std.specs.Prelude.{◌≡◌, ◌/◌, ◌<◌, length, slice_index};
-ghost use Rattle.definitions_blocks.specs.Blocks.{block_len, block_at};
+ghost use Rattle.definitions_blocks.specs.Blocks.{block_values, block_at};
 
 use crate::columns::Column;
 use block_core::{BLOCK_LEN, Block, Format, PlaceSource, Steps};
@@ -27,13 +27,13 @@ pub struct Gather<'a, const L: usize> {
 
 impl<'a, const L: usize> Model for Gather<'a, L> {
     ghost use Rattle.std.specs.Prelude.{◌≡◌, ◌*◌, ◌<◌, List, ℕ, length};
-    ghost use Rattle.definitions_blocks.specs.Blocks.{block_len, block_at};
+    ghost use Rattle.definitions_blocks.specs.Blocks.{block_values, block_at};
 
     ghost Value = { List ℕ };
 
     ghost view = { λ gather. gather.column.now.values };
 
-    ghost invariant = { λ gather. gather.held * block_len < length gather.column.now.values →
+    ghost invariant = { λ gather. gather.held * block_values < length gather.column.now.values →
         gather.block ≡ block_at gather.column.now.values gather.held };
 }
 
@@ -70,8 +70,8 @@ impl<'a, const L: usize> Gather<'a, L> {
 
     /// The value at a place of the block of this number.
     fn value_in(&mut self, number: u64, place: u64) -> u64
-        requires whole { number < length self.old / block_len }
-        requires within { place < block_len }
+        requires whole { number < length self.old / block_values }
+        requires within { place < block_values }
         ensures value { result ≡ slice_index (block_at self.old number) place }
         ensures list { self.new ≡ self.old }
     {

@@ -3,7 +3,7 @@
 ghost use Rattle.std.specs.Prelude.{◌≡◌, ◌+◌, ◌*◌, ◌/◌, ◌<◌, ◌≤◌, ◌++◌, [], ℕ, length, slice_index, OnOk, OnErr, IsOk, vec_len, List as Items};
 ghost use Rattle.std.specs.Vec.{vec_capacity};
 ghost use Rattle.std.specs.List.{AllByRecursion};
-ghost use Rattle.definitions_blocks.specs.Blocks.{block_len};
+ghost use Rattle.definitions_blocks.specs.Blocks.{block_values};
 ghost use Rattle.definitions_blocks.specs.Words.{IsWord, word_bytes, words_of};
 
 use block_core::Block;
@@ -43,7 +43,7 @@ pub fn word_at(words: &[u8], place: usize) -> u64
 /// Appends the numbers of words to an empty block.
 pub fn push_words(words: &[u8], into: &mut Block)
     requires empty { into.old ≡ [] }
-    requires encoded { (values : Items ℕ) × AllByRecursion IsWord values × (words.now ≡ words_of values) × (length values ≤ block_len) }
+    requires encoded { (values : Items ℕ) × AllByRecursion IsWord values × (words.now ≡ words_of values) × (length values ≤ block_values) }
     ensures { (values : Items ℕ) → AllByRecursion IsWord values → words.now ≡ words_of values → into.new ≡ values }
 {
     for place in 0..words.len() / 8 {

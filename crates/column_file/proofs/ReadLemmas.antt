@@ -1,7 +1,7 @@
 -- How a reader goes on by a block.
 use Rattle.std.proofs.Common.{◌≡◌, ℕ, zero, suc, ◌+◌, ◌-◌, ◌*◌, ◌/◌, ◌%◌, ◌<◌, ◌≤◌, List, [], ◌∷◌, ◌++◌, length, take, drop, get_or, IfSome, refl, sym, ap, ap₂, ◌∙◌, arith, length-append, append_assoc}
 use Rattle.std.proofs.lemmas.List.{take-append-drop, drop-drop, length-take, length-drop}
-use Rattle.definitions_blocks.specs.Blocks.{block_len}
+use Rattle.definitions_blocks.specs.Blocks.{block_values}
 use Rattle.definitions_columns.specs.ColumnFiles.{column_head, whole_blocks, Piece, piece_values, piece_bytes, head_len, static_width_of, IsColumnFile, IsIndexed}
 use Rattle.definitions_blocks.specs.Packed.{IsPacked, IsWidth}
 use Rattle.definitions_blocks.specs.Encodings.{width_of}
@@ -24,7 +24,7 @@ take_nil (suc n) = refl
 empty_width : (format : Format) → 0 ≡ static_width_of format []
 empty_width plain = refl
 empty_width static =
-    let none : whole_blocks [] ≡ [] = take_nil (length {A = ℕ} [] / block_len * block_len) in
+    let none : whole_blocks [] ≡ [] = take_nil (length {A = ℕ} [] / block_values * block_values) in
     sym (ap width_of none ∙ width_of-is 0 [] (record { holds = λ i within. absurd (omega arith); least = λ other small. omega arith }) (omega arith))
 empty_width dynamic = refl
 empty_width runs = refl
@@ -48,7 +48,7 @@ read_none format width count bytes starts begins none = record {
 
 -- the next block is none
 pub stops_here : (format : Format) (width count number place widest : ℕ) (bytes starts : List ℕ) → IsHead format width count → ReadSo format width count number place widest bytes starts
-    → number < count / block_len → LacksBlock format width (drop place bytes) → StopsAt bytes number
+    → number < count / block_values → LacksBlock format width (drop place bytes) → StopsAt bytes number
 stops_here format width count number place widest bytes starts head so more none = record {
   opening = record {
     format = format;
@@ -99,7 +99,7 @@ pub packed_width : (width own : ℕ) (values : List ℕ) (bytes : List ℕ) → 
 packed_width width own values bytes packed is = is.least width packed.small
 
 -- all blocks that the head tells of were read
-pub has_blocks : (format : Format) (width count place widest : ℕ) (bytes starts : List ℕ) → IsHead format width count → (so : ReadSo format width count (count / block_len) place widest bytes starts) → HasBlocks bytes
+pub has_blocks : (format : Format) (width count place widest : ℕ) (bytes starts : List ℕ) → IsHead format width count → (so : ReadSo format width count (count / block_values) place widest bytes starts) → HasBlocks bytes
 has_blocks format width count place widest bytes starts head so = record {
   opening = record {
     format = format;
@@ -114,20 +114,20 @@ has_blocks format width count place widest bytes starts head so = record {
   all = so.many;
 }
 
-pub wrong_width : (format : Format) (width count place widest : ℕ) (bytes starts : List ℕ) → IsHead format width count → ReadSo format width count (count / block_len) place widest bytes starts
+pub wrong_width : (format : Format) (width count place widest : ℕ) (bytes starts : List ℕ) → IsHead format width count → ReadSo format width count (count / block_values) place widest bytes starts
     → (widest ≡ width → ⊥) → HasFileFault bytes bad_width
 unfolding has_blocks
 wrong_width format width count place widest bytes starts head so other =
     (has_blocks format width count place widest bytes starts head so, λ same. other (so.widest_is ∙ sym same))
 
-pub wrong_tail : (format : Format) (width count place widest : ℕ) (bytes starts : List ℕ) → IsHead format width count → ReadSo format width count (count / block_len) place widest bytes starts
-    → widest ≡ width → (length bytes - place ≡ 8 * (count % block_len) → ⊥) → HasFileFault bytes bad_tail
+pub wrong_tail : (format : Format) (width count place widest : ℕ) (bytes starts : List ℕ) → IsHead format width count → ReadSo format width count (count / block_values) place widest bytes starts
+    → widest ≡ width → (length bytes - place ≡ 8 * (count % block_values) → ⊥) → HasFileFault bytes bad_tail
 unfolding has_blocks
 wrong_tail format width count place widest bytes starts head so same other =
     (has_blocks format width count place widest bytes starts head so, sym same ∙ so.widest_is, λ long. other (sym (length-drop place bytes) ∙ long))
 
-pub whole_file : (format : Format) (width count place widest : ℕ) (bytes starts : List ℕ) → IsHead format width count → ReadSo format width count (count / block_len) place widest bytes starts
-    → ((k : ℕ) → get_or bytes k 0 < 256) → widest ≡ width → length bytes - place ≡ 8 * (count % block_len)
+pub whole_file : (format : Format) (width count place widest : ℕ) (bytes starts : List ℕ) → IsHead format width count → ReadSo format width count (count / block_values) place widest bytes starts
+    → ((k : ℕ) → get_or bytes k 0 < 256) → widest ≡ width → length bytes - place ≡ 8 * (count % block_values)
     → (values : List ℕ) × IsIndexed format (static_width_of format values) values bytes starts
 unfolding has_blocks
 whole_file format width count place widest bytes starts head so octets same long =

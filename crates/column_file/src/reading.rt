@@ -1,7 +1,7 @@
 //! Reading a column file.
 
 ghost use Rattle.std.specs.Prelude.{◌≡◌, ◌≢◌, ◌+◌, ◌-◌, ◌*◌, ◌/◌, ◌%◌, ◌<◌, ◌≤◌, ◌++◌, ◌∷◌, ℕ, List as Items, [], max, length, take, drop, Option, Some, IfOk, IfErr, IfSome, OnOk, MatchResult};
-ghost use Rattle.definitions_blocks.specs.Blocks.{block_len};
+ghost use Rattle.definitions_blocks.specs.Blocks.{block_values};
 ghost use Rattle.definitions_blocks.specs.Formats as columns;
 ghost use Rattle.definitions_blocks.specs.Formats.{BlockOf};
 ghost use Rattle.definitions_columns.specs.ColumnFiles.{IsColumnFile, IsIndexed, static_width_of};
@@ -95,7 +95,7 @@ struct Blocks {
 /// Reads all blocks that the head tells of.
 fn read_blocks(alloc: Global, head: Head, bytes: &[u8]) -> Result<Blocks, ColumnError>
     requires { BeginsWithHead (format_of head.format) head.width head.count bytes.now }
-    ensures ok { IfOk result (λ found. ReadSo (format_of head.format) head.width head.count (head.count / block_len)
+    ensures ok { IfOk result (λ found. ReadSo (format_of head.format) head.width head.count (head.count / block_values)
         found.end found.widest bytes.now found.starts.items) }
     ensures fault { IfErr result (Says bytes.now) }
 {

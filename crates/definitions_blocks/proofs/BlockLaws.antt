@@ -120,7 +120,7 @@ BlockOf-full delta16_dynamic width values bytes is = is.full
 BlockOf-full reference_dynamic width values bytes is = is.full
 BlockOf-full delta1_runs width values bytes is = is.full
 
--- a encoding is bytes
+-- an encoding is bytes
 pub BlockOf-octets : (format : Format) (width : ℕ) (values bytes : List ℕ) → BlockOf format width values bytes → (i : ℕ) → slice_index bytes i < 256
 BlockOf-octets plain width values bytes is = IsPlainBlock-octet values bytes is
 BlockOf-octets static width values bytes is = is.octets
@@ -156,7 +156,7 @@ BlockOf-front delta1_runs width values others a b x y p q e = cascade_front firs
 pub BlockOf-values : (format : Format) (width : ℕ) (values others bytes : List ℕ) → BlockOf format width values bytes → BlockOf format width others bytes → values ≡ others
 BlockOf-values format width values others bytes p q = (BlockOf-front format width values others bytes bytes [] [] p q refl).1
 
--- how long a encoding is at most: a base, a count of runs, and 1,024 runs
+-- how long an encoding is at most: a base, a count of runs, and 1,024 runs
 pub BlockOf-short : (format : Format) (width : ℕ) (values bytes : List ℕ) → BlockOf format width values bytes → length bytes ≤ 10250
 BlockOf-short plain width values bytes is = omega (arith, IsPlainBlock-size values bytes is)
 BlockOf-short static width values bytes is = omega (arith, is.size, is.narrow)
@@ -179,7 +179,7 @@ dynamic_encoding : (values : List ℕ) → IsFull values → IsDynamicBlock valu
 unfolding dynamic_bytes
 dynamic_encoding values full = IsDynamicBlock-encoding values full
 
--- each full block that fits the column's width has a encoding
+-- each full block that fits the column's width has an encoding
 pub BlockOf-encoding : (format : Format) (width : ℕ) (values : List ℕ) → IsColumnWidth format width → IsFull values → FitsFormat format width values → (bytes : List ℕ) × BlockOf format width values bytes
 BlockOf-encoding plain width values lawful full fits = (words_of values, IsPlainBlock-encoding values full)
 BlockOf-encoding static width values lawful full fits = (packed_bytes width values, IsPacked-encoding width values lawful full.whole fits)
@@ -194,7 +194,7 @@ BlockOf-encoding reference_dynamic width values lawful full fits =
 BlockOf-encoding delta1_runs width values lawful full fits =
     cascade_encoding first_of delta1_of IsRunsBlock delta1_joined values (runs_encoding (runs_of (delta1_of values))) full (IsRunsBlock-encoding (delta1_of values) (delta1_of-full values full))
 
--- What stands at the front of a encoding: its width, its count of runs or its base.
+-- What stands at the front of an encoding: its width, its count of runs or its base.
 
 pub IsDynamicBlock-head : (values bytes : List ℕ) → IsDynamicBlock values bytes → slice_index bytes 0 ≡ width_of values
 IsDynamicBlock-head values bytes is = ap (λ l. get_or l 0 0) is.encoded

@@ -7,7 +7,7 @@ use Rattle.std.proofs.lemmas.Bool.{cases_lt}
 use Rattle.std.proofs.lemmas.List.{get_or-append_right, ext_get_or, get_or-replicate, get_or_append_left, get_or-append-add, length-replicate, get_or-map, length-map}
 use Rattle.std.proofs.lemmas.Simd.{get_or-zip2}
 use Rattle.definitions_blocks.specs.Words.{IsWord, word_bytes}
-use Rattle.definitions_blocks.specs.Blocks.{IsFull, block_len}
+use Rattle.definitions_blocks.specs.Blocks.{IsFull, block_values}
 use Rattle.definitions_blocks.specs.Differences.{difference, first_of, steps_from, delta1_of, delta16_of, least_of, reference_of}
 
 pub words_at : (values : List ℕ) → AllByRecursion IsWord values → (i : ℕ) → get_or values i 0 < 2 ^ 64
@@ -20,7 +20,7 @@ words_from [] small = tt
 words_from (v ∷ values) small = (small 0, words_from values (λ i. small (suc i)))
 
 -- a slice's values are a full block, if they are as many
-pub full_from : (slice values : List ℕ) → slice ≡ values → ((i : ℕ) → get_or slice i 0 < 2 ^ 64) → length values ≡ block_len → IsFull values
+pub full_from : (slice values : List ℕ) → slice ≡ values → ((i : ℕ) → get_or slice i 0 < 2 ^ 64) → length values ≡ block_values → IsFull values
 full_from slice values same small whole = record { whole = whole; words = subst (λ l. AllByRecursion IsWord l) same (words_from slice small) }
 
 words_push : (values : List ℕ) (v : ℕ) → AllByRecursion IsWord values → v < 2 ^ 64 → AllByRecursion IsWord (values ++ v ∷ [])

@@ -6,7 +6,7 @@ use Rattle.std.specs.List.{AllByRecursion, prefix_len, range_with_len}
 use Rattle.std.proofs.lemmas.Bool.{cases_lt, lt-ltb, ltb-true}
 use Rattle.std.proofs.lemmas.List.{length-take, length-drop, get_or-take, get_or-drop, get_or_past, get_or_append_left, get_or-append_right, take-append-drop, take_at, drop-drop, nil_from_length}
 use Rattle.definitions_blocks.specs.Words.{IsWord, word_bytes, words_of}
-use Rattle.definitions_blocks.specs.Blocks.{block_len, IsFull}
+use Rattle.definitions_blocks.specs.Blocks.{block_values, IsFull}
 use Rattle.definitions_blocks.specs.Packed.{AreBelow, IsPacked, IsWidth}
 use Rattle.definitions_blocks.specs.Encodings.{fits_width, width_of, IsPlainBlock, IsDynamicBlock}
 use Rattle.definitions_blocks.proofs.BitLaws.{table, length-table, get_or-table}
@@ -184,7 +184,7 @@ pub drop-octet : (n : ℕ) (bytes : List ℕ) → ((k : ℕ) → get_or bytes k 
 drop-octet n bytes octets k = subst (λ v. v < 256) (sym (get_or-drop n bytes k 0)) (octets (n + k))
 
 -- the numbers of a list's words are a block
-pub IsPlainBlock-read : (values bytes : List ℕ) → length values ≡ block_len → length bytes ≡ 8192 → ((k : ℕ) → slice_index bytes k < 256)
+pub IsPlainBlock-read : (values bytes : List ℕ) → length values ≡ block_values → length bytes ≡ 8192 → ((k : ℕ) → slice_index bytes k < 256)
     → ((i : ℕ) → i < length values → from_le_bytes w64 (take 8 (drop (8 * i) bytes)) ≡ slice_index values i) → IsPlainBlock values bytes
 IsPlainBlock-read values bytes long size octets each =
     record {

@@ -7,7 +7,7 @@ use Rattle.std.proofs.lemmas.Bool.{cases_lt}
 use Rattle.std.proofs.lemmas.List.{ext_get_or, get_or_past, get_or_append_left, get_or-append_right, get_or-append-add}
 use Rattle.std.proofs.lemmas.Nat.{mul-add-lt, div-mul-add, mod-mul-add, div_below, mod_below, div-add-mod'}
 use Rattle.std.proofs.lemmas.Nat.Bits.{bit_at-lt, same_from_bits_below}
-use Rattle.definitions_blocks.specs.Blocks.{block_len}
+use Rattle.definitions_blocks.specs.Blocks.{block_values}
 use Rattle.definitions_blocks.specs.Packed.{strand_bit, AreBelow, IsPacked, IsWidth}
 use Rattle.definitions_blocks.proofs.BitLaws.{from_bits, from_bits_lt, bit_at-from_bits, table, length-table, get_or-table}
 use Rattle.definitions_blocks.proofs.PrefixLaws.{same_front}
@@ -142,8 +142,8 @@ length-packed_bytes : (width : ℕ) (values : List ℕ) → length (packed_bytes
 unfolding packed_bytes
 length-packed_bytes width values = length-table _ (128 * width)
 
--- any small values have a encoding
-pub IsPacked-encoding : (width : ℕ) (values : List ℕ) → width ≤ 64 → length values ≡ block_len → AreBelow width values → IsPacked width values (packed_bytes width values)
+-- any small values have an encoding
+pub IsPacked-encoding : (width : ℕ) (values : List ℕ) → width ≤ 64 → length values ≡ block_values → AreBelow width values → IsPacked width values (packed_bytes width values)
 IsPacked-encoding width values narrow count small = record {
   narrow = narrow;
   count = count;

@@ -1,4 +1,4 @@
--- Values have one list of runs, a block has one encoding by its runs and bytes are one block, and each block has a encoding.
+-- Values have one list of runs, a block has one encoding by its runs and bytes are one block, and each block has an encoding.
 use Rattle.std.proofs.Common.{◌≡◌, ◌≢◌, ℕ, zero, suc, ◌+◌, ◌*◌, ◌^◌, ◌<◌, ◌≤◌, Bool, List, [], ◌∷◌, ◌++◌, length, get_or, flat_map, replicate, if◌then◌else◌, refl, sym, ap, ◌∙◌, subst, ⊎_elim, arith, length-append, append_assoc}
 use Rattle.std.specs.Prelude.{slice_index, ◌==◌}
 use Rattle.std.specs.List.{AllByRecursion}
@@ -326,6 +326,6 @@ IsRunsBlock-front values others a b x y is be e =
     let runs : is.runs ≡ be.runs = runs_bytes-one is.runs be.runs (AreRunsOf-fit is.runs values is.are is.full) (AreRunsOf-fit be.runs others be.are be.full) bodies in
     (is.encoded ∙ ap runs_encoding runs ∙ sym be.encoded, sym is.are.cover ∙ ap run_values runs ∙ be.are.cover)
 
--- each full block has a encoding
+-- each full block has an encoding
 pub IsRunsBlock-encoding : (values : List ℕ) → IsFull values → IsRunsBlock values (runs_encoding (runs_of values))
 IsRunsBlock-encoding values full = record { full = full; runs = runs_of values; are = AreRunsOf-runs_of values; encoded = refl }

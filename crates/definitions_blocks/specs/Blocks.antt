@@ -4,8 +4,8 @@ use Rattle.std.specs.List.{AllByRecursion}
 use Rattle.definitions_blocks.specs.Words.{IsWord}
 
 -- how many values a block has
-abbrev pub block_len : ℕ
-block_len = 1024
+abbrev pub block_values : ℕ
+block_values = 1024
 
 -- how many strands a packed block has: value i stands in strand i mod 16
 abbrev pub strands : ℕ
@@ -13,9 +13,9 @@ strands = 16
 
 -- a full block of 64-bit numbers
 pub record IsFull (values : List ℕ) : Type 0 where
-  pub whole : length values ≡ block_len
+  pub whole : length values ≡ block_values
   pub words : AllByRecursion IsWord values
 
 -- the values of a list from the block of this number on, at most a block
 abbrev pub block_at : List ℕ → ℕ → List ℕ
-block_at values number = take block_len (drop (number * block_len) values)
+block_at values number = take block_values (drop (number * block_values) values)

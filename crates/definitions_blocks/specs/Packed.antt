@@ -1,7 +1,7 @@
 -- Bit packing: a block in 16 strands, each value with as many bits as the width says.
 use Rattle.std.specs.Prelude.{◌≡◌, ℕ, ◌+◌, ◌*◌, ◌/◌, ◌%◌, ◌^◌, ◌<◌, ◌≤◌, List, length, slice_index}
 use Rattle.std.specs.Int.{bit_at}
-use Rattle.definitions_blocks.specs.Blocks.{block_len, strands}
+use Rattle.definitions_blocks.specs.Blocks.{block_values, strands}
 
 -- bit m of word j: bit m mod 8 of byte 8j + m div 8
 abbrev pub word_bit : List ℕ → ℕ → ℕ → ℕ
@@ -19,11 +19,11 @@ AreBelow width values = (i : ℕ) → i < length values → slice_index values i
 -- r * width + b of its strand.
 pub record IsPacked (width : ℕ) (values bytes : List ℕ) : Type 0 where
   pub narrow : width ≤ 64
-  pub count : length values ≡ block_len
+  pub count : length values ≡ block_values
   pub size : length bytes ≡ 128 * width
   pub octets : (i : ℕ) → slice_index bytes i < 2 ^ 8
   pub small : AreBelow width values
-  pub bits : (i b : ℕ) → i < block_len → b < width → bit_at (slice_index values i) b ≡ strand_bit bytes (i % strands) (i / strands * width + b)
+  pub bits : (i b : ℕ) → i < block_values → b < width → bit_at (slice_index values i) b ≡ strand_bit bytes (i % strands) (i / strands * width + b)
 
 -- the least width that holds the values
 pub record IsWidth (width : ℕ) (values : List ℕ) : Type 0 where

@@ -5,7 +5,7 @@ use Rattle.std.specs.List.{AllByRecursion}
 use Rattle.std.proofs.lemmas.List.{take_at}
 use Rattle.definitions_blocks.specs.Words.{IsWord, word_bytes, words_of}
 use Rattle.definitions_columns.specs.ColumnFiles.{column_head, whole_blocks, Piece, ArePieces, piece_values, piece_bytes, IsEncoded}
-use Rattle.definitions_blocks.specs.Blocks.{block_len}
+use Rattle.definitions_blocks.specs.Blocks.{block_values}
 use Rattle.definitions_blocks.specs.Formats.{Format, plain, static, dynamic, runs, delta1_dynamic, delta16_dynamic, reference_dynamic, delta1_runs, tag_of}
 use Rattle.definitions_blocks.proofs.WordLaws.{length-word_bytes}
 use Rattle.definitions_blocks.proofs.PrefixLaws.{same_rest, words_of-one}
@@ -56,7 +56,7 @@ column_head-one tag other width wide count counted rest after few short e =
 
 -- Pieces.
 
-pub length-piece_values : (format : Format) (width : ℕ) (pieces : List Piece) → ArePieces format width pieces → length (piece_values pieces) ≡ length pieces * block_len
+pub length-piece_values : (format : Format) (width : ℕ) (pieces : List Piece) → ArePieces format width pieces → length (piece_values pieces) ≡ length pieces * block_values
 length-piece_values format width [] are = refl
 length-piece_values format width (piece ∷ pieces) are =
     omega (arith, length-append piece.values (piece_values pieces), (BlockOf-full format width piece.values piece.encoding are.0).whole, length-piece_values format width pieces are.1)
@@ -94,7 +94,7 @@ words_front (value ∷ values) others words = words_front values others words.1
 pub tail_words : (format : Format) (width : ℕ) (values bytes : List ℕ) → (is : IsEncoded format width values bytes) → AllByRecursion IsWord is.tail
 tail_words format width values bytes is = words_front (piece_values is.pieces) is.tail (subst (AllByRecursion IsWord) is.values_are is.column.words)
 
-pub encoded_length : (format : Format) (width : ℕ) (values bytes : List ℕ) → (is : IsEncoded format width values bytes) → length values ≡ length is.pieces * block_len + length is.tail
+pub encoded_length : (format : Format) (width : ℕ) (values bytes : List ℕ) → (is : IsEncoded format width values bytes) → length values ≡ length is.pieces * block_values + length is.tail
 encoded_length format width values bytes is =
     ap length is.values_are ∙ length-append (piece_values is.pieces) is.tail ∙ ap (λ n. n + length is.tail) (length-piece_values format width is.pieces is.blocks)
 
@@ -131,5 +131,5 @@ IsEncoded-one format other width wide values others bytes is be =
 pub whole_blocks-pieces : (format : Format) (width : ℕ) (values bytes : List ℕ) → (is : IsEncoded format width values bytes) → whole_blocks values ≡ piece_values is.pieces
 whole_blocks-pieces format width values bytes is =
     let long = encoded_length format width values bytes is in
-    let count : length values / block_len * block_len ≡ length (piece_values is.pieces) = omega (arith, long, is.short, length-piece_values format width is.pieces is.blocks) in
+    let count : length values / block_values * block_values ≡ length (piece_values is.pieces) = omega (arith, long, is.short, length-piece_values format width is.pieces is.blocks) in
     ap (λ n. take n values) count ∙ ap (take (length (piece_values is.pieces))) is.values_are ∙ take_at (piece_values is.pieces) is.tail (length (piece_values is.pieces)) refl

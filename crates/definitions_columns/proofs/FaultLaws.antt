@@ -3,7 +3,7 @@ use Rattle.std.proofs.Common.{◌≡◌, ℕ, zero, suc, ◌*◌, ◌/◌, ◌%�
 use Rattle.std.specs.List.{AllByRecursion}
 use Rattle.std.proofs.lemmas.Bool.{cases_lt}
 use Rattle.std.proofs.lemmas.List.{take_all, take_at, take-append-drop, nil_from_length, length-take, length-drop}
-use Rattle.definitions_blocks.specs.Blocks.{block_len}
+use Rattle.definitions_blocks.specs.Blocks.{block_values}
 use Rattle.definitions_columns.specs.ColumnFiles.{column_head, whole_blocks, static_width_of, Piece, ArePieces, piece_values, piece_bytes, starts_from, head_len, IsIndexed, IsColumnFile}
 use Rattle.definitions_blocks.specs.Words.{word_bytes, words_of, IsWord}
 use Rattle.definitions_blocks.specs.Packed.{AreBelow}
@@ -70,7 +70,7 @@ stops_first one other more none =
 stops_and_has : (bytes : List ℕ) (block : ℕ) → StopsAt bytes block → HasBlocks bytes → ⊥
 stops_and_has bytes block stop has =
     let same = same_opening stop.opening has.opening in
-    stops_first stop.opening has.opening (omega (arith, stop.good, stop.more, has.all, ap (λ n. n / block_len) same.counts)) stop.stops
+    stops_first stop.opening has.opening (omega (arith, stop.good, stop.more, has.all, ap (λ n. n / block_values) same.counts)) stop.stops
 
 one_stop : (bytes : List ℕ) (block other : ℕ) → StopsAt bytes block → StopsAt bytes other → block ≡ other
 one_stop bytes block other stop later =
@@ -92,7 +92,7 @@ record SameWhole {bytes : List ℕ} (one other : HasBlocks bytes) : Type 0 where
 same_whole : {bytes : List ℕ} (one other : HasBlocks bytes) → SameWhole one other
 same_whole one other =
     let same = same_opening one.opening other.opening in
-    let blocks = same_blocks one.opening other.opening (omega (arith, one.all, other.all, ap (λ n. n / block_len) same.counts)) in
+    let blocks = same_blocks one.opening other.opening (omega (arith, one.all, other.all, ap (λ n. n / block_values) same.counts)) in
     record {
       widths = same.widths;
       asked = ap₂ (λ f l. static_width_of f l) same.formats blocks.values;
@@ -136,13 +136,13 @@ static_width_of-blocks delta1_runs values others e = refl
 pub whole_blocks-all : (format : Format) (width : ℕ) (pieces : List Piece) → ArePieces format width pieces → whole_blocks (piece_values pieces) ≡ piece_values pieces
 whole_blocks-all format width pieces are =
     let long = length-piece_values format width pieces are in
-    take_all (length (piece_values pieces) / block_len * block_len) (piece_values pieces) (omega (arith, long))
+    take_all (length (piece_values pieces) / block_values * block_values) (piece_values pieces) (omega (arith, long))
 
 -- what a file opens with
 pub record FileOpening (format : Format) (values bytes : List ℕ) : Type 0 where
   pub has : HasBlocks bytes
   pub least : has.opening.width ≡ asked_width has.opening
-  pub rest : length has.opening.rest ≡ 8 * (has.opening.count % block_len)
+  pub rest : length has.opening.rest ≡ 8 * (has.opening.count % block_values)
 
 pub file_opening : (format : Format) (values bytes : List ℕ) → IsColumnFile format values bytes → FileOpening format values bytes
 file_opening format values bytes is =
@@ -179,7 +179,7 @@ HasFileFault-none format values bytes bad_width is p =
 HasFileFault-none format values bytes bad_tail is p =
     let open_file = file_opening format values bytes is in
     let same = same_whole p.0 open_file.has in
-    p.2 (ap length same.rests ∙ open_file.rest ∙ ap (λ n. 8 * (n % block_len)) (sym same.counts))
+    p.2 (ap length same.rests ∙ open_file.rest ∙ ap (λ n. 8 * (n % block_values)) (sym same.counts))
 
 -- The numbers that words encode.
 
@@ -211,30 +211,30 @@ pieces_words format width (piece ∷ pieces) are = AreWords-append piece.values 
 
 -- the column of bytes without a fault
 abbrev pub opening_values : {bytes : List ℕ} → Opening bytes → List ℕ
-opening_values opening = piece_values opening.pieces ++ words_in (opening.count % block_len) opening.rest
+opening_values opening = piece_values opening.pieces ++ words_in (opening.count % block_values) opening.rest
 
 -- a tail is in no whole block
-whole_of_front : (front tail : List ℕ) → length front % block_len ≡ 0 → length tail < block_len → whole_blocks (front ++ tail) ≡ whole_blocks front
+whole_of_front : (front tail : List ℕ) → length front % block_values ≡ 0 → length tail < block_values → whole_blocks (front ++ tail) ≡ whole_blocks front
 whole_of_front front tail even short =
-    let all : length (front ++ tail) / block_len * block_len ≡ length front = omega (arith, length-append front tail) in
-    let here : length front / block_len * block_len ≡ length front = omega arith in
+    let all : length (front ++ tail) / block_values * block_values ≡ length front = omega (arith, length-append front tail) in
+    let here : length front / block_values * block_values ≡ length front = omega arith in
     ap (λ n. take n (front ++ tail)) all ∙ take_at front tail (length front) refl ∙ sym (ap (λ n. take n front) here ∙ take_all (length front) front (omega arith))
 
 -- bytes whose blocks are all good, whose width is the least and whose rest is as long as the tail are a column's file
 pub file_of_opening : (bytes starts : List ℕ) (has : HasBlocks bytes) → starts ≡ starts_from head_len has.opening.pieces → ((k : ℕ) → get_or has.opening.rest k 0 < 256) → has.opening.width ≡ asked_width has.opening
-    → length has.opening.rest ≡ 8 * (has.opening.count % block_len) → IsIndexed has.opening.format (static_width_of has.opening.format (opening_values has.opening)) (opening_values has.opening) bytes starts
+    → length has.opening.rest ≡ 8 * (has.opening.count % block_values) → IsIndexed has.opening.format (static_width_of has.opening.format (opening_values has.opening)) (opening_values has.opening) bytes starts
 file_of_opening bytes starts has begins octets least rest =
     let o = has.opening in
-    let tail = words_in (o.count % block_len) o.rest in
+    let tail = words_in (o.count % block_values) o.rest in
     let long = length-piece_values o.format o.width o.pieces o.blocks in
-    let tail_long : length tail ≡ o.count % block_len = length-words_in (o.count % block_len) o.rest in
+    let tail_long : length tail ≡ o.count % block_values = length-words_in (o.count % block_values) o.rest in
     let all : length (opening_values o) ≡ o.count = omega (arith, length-append (piece_values o.pieces) tail, long, tail_long, has.all) in
     let blocks : whole_blocks (opening_values o) ≡ whole_blocks (piece_values o.pieces) = whole_of_front (piece_values o.pieces) tail (omega (arith, long)) (omega (arith, tail_long)) in
     let width : o.width ≡ static_width_of o.format (opening_values o) = least ∙ sym (static_width_of-blocks o.format (opening_values o) (piece_values o.pieces) blocks) in
     record {
       starts_are = begins;
       encoded = record {
-        column = record { few = omega (arith, all, o.head.few); words = AreWords-append (piece_values o.pieces) tail (pieces_words o.format o.width o.pieces o.blocks) (words_in-words (o.count % block_len) o.rest octets) };
+        column = record { few = omega (arith, all, o.head.few); words = AreWords-append (piece_values o.pieces) tail (pieces_words o.format o.width o.pieces o.blocks) (words_in-words (o.count % block_values) o.rest octets) };
         pieces = o.pieces;
         tail = tail;
         blocks = subst (λ w. ArePieces o.format w o.pieces) width o.blocks;
@@ -243,7 +243,7 @@ file_of_opening bytes starts has begins octets least rest =
         bytes_are =
             o.bytes_are
             ∙ ap₂ (λ w n. column_head (tag_of o.format) w n ++ (piece_bytes o.pieces ++ o.rest)) width (sym all)
-            ∙ ap (λ l. column_head (tag_of o.format) (static_width_of o.format (opening_values o)) (length (opening_values o)) ++ (piece_bytes o.pieces ++ l)) (sym (words_of-words_in (o.count % block_len) o.rest rest octets));
+            ∙ ap (λ l. column_head (tag_of o.format) (static_width_of o.format (opening_values o)) (length (opening_values o)) ++ (piece_bytes o.pieces ++ l)) (sym (words_of-words_in (o.count % block_values) o.rest rest octets));
       };
     }
 
@@ -266,12 +266,12 @@ width_of-append values others small below =
     (IsWidth-append (width_of values) (width_of others) values others (IsWidth-width_of values small) (IsWidth-width_of others below))
     (omega (arith, width_of-narrow values small, width_of-narrow others below))
 
-pub static_width_of-push : (format : Format) (values block : List ℕ) → length values % block_len ≡ 0 → length block ≡ block_len → AllByRecursion IsWord values → AllByRecursion IsWord block
+pub static_width_of-push : (format : Format) (values block : List ℕ) → length values % block_values ≡ 0 → length block ≡ block_values → AllByRecursion IsWord values → AllByRecursion IsWord block
     → static_width_of format (values ++ block) ≡ next_width format (static_width_of format values) block
 static_width_of-push plain values block even full words fit = refl
 static_width_of-push static values block even full words fit =
-    let all : whole_blocks (values ++ block) ≡ values ++ block = take_all (length (values ++ block) / block_len * block_len) (values ++ block) (omega (arith, length-append values block)) in
-    let here : whole_blocks values ≡ values = take_all (length values / block_len * block_len) values (omega arith) in
+    let all : whole_blocks (values ++ block) ≡ values ++ block = take_all (length (values ++ block) / block_values * block_values) (values ++ block) (omega (arith, length-append values block)) in
+    let here : whole_blocks values ≡ values = take_all (length values / block_values * block_values) values (omega arith) in
     ap width_of all ∙ width_of-append values block (AreBelow-words values words) (AreBelow-words block fit) ∙ ap (λ l. max (width_of l) (width_of block)) (sym here)
 static_width_of-push dynamic values block even full words fit = refl
 static_width_of-push runs values block even full words fit = refl

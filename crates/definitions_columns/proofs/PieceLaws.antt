@@ -6,7 +6,7 @@ use Rattle.std.proofs.lemmas.List.{take_at, take_all, take-take, drop-take, take
 use Rattle.definitions_blocks.specs.Words.{IsWord, word_bytes, words_of}
 use Rattle.definitions_blocks.specs.Columns.{max_rows}
 use Rattle.definitions_columns.specs.ColumnFiles.{column_head, Piece, ArePieces, piece_values, piece_bytes, starts_from, head_len, IsEncoded, IsIndexed}
-use Rattle.definitions_blocks.specs.Blocks.{block_len, block_at, IsFull}
+use Rattle.definitions_blocks.specs.Blocks.{block_values, block_at, IsFull}
 use Rattle.definitions_blocks.specs.Formats.{Format, tag_of, BlockOf}
 use Rattle.definitions_blocks.proofs.WordLaws.{length-word_bytes}
 use Rattle.definitions_blocks.proofs.BlockLaws.{BlockOf-full}
@@ -30,7 +30,7 @@ pub record PieceAt (format : Format) (width : ℕ) (pieces : List Piece) (place 
   pub within : offset + length encoding ≤ length (piece_bytes pieces)
   pub next : number + 1 < length pieces → get_or (starts_from place pieces) (number + 1) 0 ≡ place + (offset + length encoding)
   pub last : number + 1 ≡ length pieces → offset + length encoding ≡ length (piece_bytes pieces)
-  pub are : take block_len (drop (number * block_len) (piece_values pieces ++ tail)) ≡ values
+  pub are : take block_values (drop (number * block_values) (piece_values pieces ++ tail)) ≡ values
 
 start_after : (place : ℕ) (piece : Piece) (pieces : List Piece) → 1 < length (piece ∷ pieces) → get_or (starts_from place (piece ∷ pieces)) 1 0 ≡ place + length piece.encoding
 start_after place piece [] more = absurd (omega arith)
@@ -52,15 +52,15 @@ first_piece format width piece pieces place tail rest are = record {
   within = omega (arith, length-append piece.encoding (piece_bytes pieces));
   next = λ more. start_after place piece pieces more ∙ omega arith;
   last = λ one. omega (arith, bytes_after piece pieces one);
-  are = ap (take block_len) (append_assoc piece.values (piece_values pieces) tail)
-      ∙ take_at piece.values (piece_values pieces ++ tail) block_len (BlockOf-full format width piece.values piece.encoding are.0).whole;
+  are = ap (take block_values) (append_assoc piece.values (piece_values pieces) tail)
+      ∙ take_at piece.values (piece_values pieces ++ tail) block_values (BlockOf-full format width piece.values piece.encoding are.0).whole;
 }
 
 later_piece : (format : Format) (width : ℕ) (piece : Piece) (pieces : List Piece) (place number : ℕ) (tail rest : List ℕ) → BlockOf format width piece.values piece.encoding
     → PieceAt format width pieces (place + length piece.encoding) number tail rest → PieceAt format width (piece ∷ pieces) place (suc number) tail rest
 later_piece format width piece pieces place number tail rest is at =
-    let long : length piece.values ≡ block_len = (BlockOf-full format width piece.values piece.encoding is).whole in
-    let counts : suc number * block_len ≡ length piece.values + number * block_len = omega (arith, long) in
+    let long : length piece.values ≡ block_values = (BlockOf-full format width piece.values piece.encoding is).whole in
+    let counts : suc number * block_values ≡ length piece.values + number * block_values = omega (arith, long) in
     record {
       values = at.values;
       encoding = at.encoding;
@@ -77,9 +77,9 @@ later_piece format width piece pieces place number tail rest is at =
           ap (λ n. get_or (starts_from place (piece ∷ pieces)) n 0) place_is ∙ at_next ∙ omega arith;
       last = λ end. let e = at.last (omega arith) in omega (arith, e, length-append piece.encoding (piece_bytes pieces));
       are =
-          ap (λ l. take block_len (drop (suc number * block_len) l)) (append_assoc piece.values (piece_values pieces) tail)
-          ∙ ap (λ n. take block_len (drop n (piece.values ++ (piece_values pieces ++ tail)))) counts
-          ∙ ap (take block_len) (drop_past piece.values (piece_values pieces ++ tail) (number * block_len)) ∙ at.are;
+          ap (λ l. take block_values (drop (suc number * block_values) l)) (append_assoc piece.values (piece_values pieces) tail)
+          ∙ ap (λ n. take block_values (drop n (piece.values ++ (piece_values pieces ++ tail)))) counts
+          ∙ ap (take block_values) (drop_past piece.values (piece_values pieces ++ tail) (number * block_values)) ∙ at.are;
     }
 
 pub piece_at : (format : Format) (width : ℕ) (pieces : List Piece) (place number : ℕ) (tail rest : List ℕ) → ArePieces format width pieces → number < length pieces
@@ -96,7 +96,7 @@ pub record BlockPlace (format : Format) (width : ℕ) (values bytes starts : Lis
   pub bytes_are : take (length encoding) (drop (get_or starts number 0) bytes) ≡ encoding
   pub within : get_or starts number 0 + length encoding ≤ length bytes
   pub next : number + 1 < length starts → get_or starts (number + 1) 0 ≡ get_or starts number 0 + length encoding
-  pub last : number + 1 ≡ length starts → get_or starts number 0 + length encoding + 8 * (length values % block_len) ≡ length bytes
+  pub last : number + 1 ≡ length starts → get_or starts number 0 + length encoding + 8 * (length values % block_values) ≡ length bytes
 
 length-words : (values : List ℕ) → length (words_of values) ≡ 8 * length values
 length-words [] = refl
@@ -117,9 +117,9 @@ encoded_size format width values bytes is =
 -- how many whole blocks and tail values there are
 pub record Counts (format : Format) (width : ℕ) (values bytes starts : List ℕ) (pieces : List Piece) (tail : List ℕ) : Type 0 where
   pub whole : length starts ≡ length pieces
-  pub blocks : length pieces ≡ length values / block_len
-  pub rest : length tail ≡ length values % block_len
-  pub total : length values ≡ length pieces * block_len + length tail
+  pub blocks : length pieces ≡ length values / block_values
+  pub rest : length tail ≡ length values % block_values
+  pub total : length values ≡ length pieces * block_values + length tail
   pub size : length bytes ≡ head_len + length (piece_bytes pieces) + 8 * length tail
 
 pub counts : (format : Format) (width : ℕ) (values bytes starts : List ℕ) (is : IsIndexed format width values bytes starts)
@@ -136,7 +136,7 @@ counts format width values bytes starts is =
       size = encoded_size format width values bytes e;
     }
 
-pub block_place : (format : Format) (width : ℕ) (values bytes starts : List ℕ) (number : ℕ) (is : IsIndexed format width values bytes starts) → number < length values / block_len
+pub block_place : (format : Format) (width : ℕ) (values bytes starts : List ℕ) (number : ℕ) (is : IsIndexed format width values bytes starts) → number < length values / block_values
     → BlockPlace format width values bytes starts number
 block_place format width values bytes starts number is within =
     let e = is.encoded in
@@ -146,7 +146,7 @@ block_place format width values bytes starts number is within =
     let inside : number < length e.pieces = omega (arith, count.blocks) in
     let at = piece_at format width e.pieces head_len number e.tail (words_of e.tail) e.blocks inside in
     let start : get_or starts number 0 ≡ head_len + at.offset = ap (λ l. get_or l number 0) is.starts_are ∙ at.start in
-    let values_are : block_at values number ≡ at.values = ap (λ l. take block_len (drop (number * block_len) l)) e.values_are ∙ at.are in
+    let values_are : block_at values number ≡ at.values = ap (λ l. take block_values (drop (number * block_values) l)) e.values_are ∙ at.are in
     let dropped : drop (get_or starts number 0) bytes ≡ drop at.offset (piece_bytes e.pieces ++ words_of e.tail) =
     ap₂ (λ n l. drop n l) start e.bytes_are ∙ ap (λ n. drop (n + at.offset) (head ++ (piece_bytes e.pieces ++ words_of e.tail))) (sym long) ∙ drop_past head (piece_bytes e.pieces ++ words_of e.tail) at.offset in
     record {
@@ -160,12 +160,12 @@ block_place format width values bytes starts number is within =
 
 -- The tail stands at the end, a word for each value.
 pub record TailPlace (values bytes : List ℕ) : Type 0 where
-  pub words : AllByRecursion IsWord (block_at values (length values / block_len))
+  pub words : AllByRecursion IsWord (block_at values (length values / block_values))
   pub start : ℕ
-  pub size : start + 8 * (length values % block_len) ≡ length bytes
-  pub bytes_are : drop start bytes ≡ words_of (block_at values (length values / block_len))
-  pub few : length (block_at values (length values / block_len)) ≡ length values % block_len
-  pub are : drop (length values / block_len * block_len) values ≡ block_at values (length values / block_len)
+  pub size : start + 8 * (length values % block_values) ≡ length bytes
+  pub bytes_are : drop start bytes ≡ words_of (block_at values (length values / block_values))
+  pub few : length (block_at values (length values / block_values)) ≡ length values % block_values
+  pub are : drop (length values / block_values * block_values) values ≡ block_at values (length values / block_values)
 
 take_all_of : (n : ℕ) (l : List ℕ) → length l ≤ n → take n l ≡ l
 take_all_of n l few = take_all n l few
@@ -176,11 +176,11 @@ tail_place format width values bytes starts is =
     let count = counts format width values bytes starts is in
     let head = column_head (tag_of format) width (length values) in
     let long : length head ≡ 16 = length-column_head (tag_of format) width (length values) in
-    let whole : length values / block_len * block_len ≡ length (piece_values e.pieces) = omega (arith, count.blocks, length-piece_values format width e.pieces e.blocks) in
-    let rest : drop (length values / block_len * block_len) values ≡ e.tail =
+    let whole : length values / block_values * block_values ≡ length (piece_values e.pieces) = omega (arith, count.blocks, length-piece_values format width e.pieces e.blocks) in
+    let rest : drop (length values / block_values * block_values) values ≡ e.tail =
     ap₂ (λ n l. drop n l) whole e.values_are ∙ drop_at (piece_values e.pieces) e.tail (length (piece_values e.pieces)) refl in
-    let cut : block_at values (length values / block_len) ≡ e.tail =
-    ap (take block_len) rest ∙ take_all_of block_len e.tail (omega (arith, e.short)) in
+    let cut : block_at values (length values / block_values) ≡ e.tail =
+    ap (take block_values) rest ∙ take_all_of block_values e.tail (omega (arith, e.short)) in
     let words : AllByRecursion IsWord e.tail = tail_words format width values bytes e in
     record {
       words = subst (AllByRecursion IsWord) (sym cut) words;
@@ -253,7 +253,7 @@ record Whole (format : Format) (width : ℕ) (values bytes starts : List ℕ) (p
   bytes_are : bytes ≡ column_head (tag_of format) width (length values) ++ piece_bytes pieces
   size : length bytes ≡ head_len + length (piece_bytes pieces)
 
-whole_column : (format : Format) (width : ℕ) (values bytes starts : List ℕ) (is : IsIndexed format width values bytes starts) → length values % block_len ≡ 0
+whole_column : (format : Format) (width : ℕ) (values bytes starts : List ℕ) (is : IsIndexed format width values bytes starts) → length values % block_values ≡ 0
     → Whole format width values bytes starts is.encoded.pieces
 whole_column format width values bytes starts is even =
     let e = is.encoded in
@@ -266,15 +266,15 @@ whole_column format width values bytes starts is even =
     }
 
 -- one more block
-pub IsIndexed-push : (format : Format) (width : ℕ) (values bytes starts block encoding : List ℕ) → IsIndexed format width values bytes starts → length values % block_len ≡ 0
-    → length values + block_len ≤ max_rows → BlockOf format width block encoding
-    → IsIndexed format width (values ++ block) (with_count (length values + block_len) (bytes ++ encoding)) (starts ++ length bytes ∷ [])
+pub IsIndexed-push : (format : Format) (width : ℕ) (values bytes starts block encoding : List ℕ) → IsIndexed format width values bytes starts → length values % block_values ≡ 0
+    → length values + block_values ≤ max_rows → BlockOf format width block encoding
+    → IsIndexed format width (values ++ block) (with_count (length values + block_values) (bytes ++ encoding)) (starts ++ length bytes ∷ [])
 IsIndexed-push format width values bytes starts block encoding is even few encoded =
     let e = is.encoded in
     let whole = whole_column format width values bytes starts is even in
     let piece : Piece = record { values = block; encoding = encoding } in
     let full : IsFull block = BlockOf-full format width block encoding encoded in
-    let long : length (values ++ block) ≡ length values + block_len = omega (arith, length-append values block, full.whole) in
+    let long : length (values ++ block) ≡ length values + block_values = omega (arith, length-append values block, full.whole) in
     let tag = tag_of format in
     record {
       encoded = record {
@@ -285,9 +285,9 @@ IsIndexed-push format width values bytes starts block encoding is even few encod
         short = omega arith;
         values_are = ap (λ l. l ++ block) whole.values_are ∙ sym (piece_values-push e.pieces piece) ∙ sym (append-nil (piece_values (e.pieces ++ piece ∷ [])));
         bytes_are =
-            ap (λ l. with_count (length values + block_len) (l ++ encoding)) whole.bytes_are
-            ∙ ap (with_count (length values + block_len)) (append_assoc (column_head tag width (length values)) (piece_bytes e.pieces) encoding)
-            ∙ with_count-head tag width (length values) (length values + block_len) (piece_bytes e.pieces ++ encoding)
+            ap (λ l. with_count (length values + block_values) (l ++ encoding)) whole.bytes_are
+            ∙ ap (with_count (length values + block_values)) (append_assoc (column_head tag width (length values)) (piece_bytes e.pieces) encoding)
+            ∙ with_count-head tag width (length values) (length values + block_values) (piece_bytes e.pieces ++ encoding)
             ∙ ap (λ n. column_head tag width n ++ (piece_bytes e.pieces ++ encoding)) (sym long)
             ∙ ap (λ (l : List ℕ). column_head tag width (length (values ++ block)) ++ l) (sym (piece_bytes-push e.pieces piece) ∙ sym (append-nil (piece_bytes (e.pieces ++ piece ∷ []))));
       };
@@ -296,8 +296,8 @@ IsIndexed-push format width values bytes starts block encoding is even few encod
     }
 
 -- a tail
-pub IsIndexed-tail : (format : Format) (width : ℕ) (values bytes starts tail : List ℕ) → IsIndexed format width values bytes starts → length values % block_len ≡ 0
-    → length values + length tail ≤ max_rows → length tail < block_len → AllByRecursion IsWord tail
+pub IsIndexed-tail : (format : Format) (width : ℕ) (values bytes starts tail : List ℕ) → IsIndexed format width values bytes starts → length values % block_values ≡ 0
+    → length values + length tail ≤ max_rows → length tail < block_values → AllByRecursion IsWord tail
     → IsIndexed format width (values ++ tail) (with_count (length values + length tail) (bytes ++ words_of tail)) starts
 IsIndexed-tail format width values bytes starts tail is even few short words =
     let e = is.encoded in

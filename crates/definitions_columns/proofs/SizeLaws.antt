@@ -4,7 +4,7 @@ use Rattle.std.specs.List.{AllByRecursion}
 use Rattle.std.proofs.lemmas.List.{take_at, take_all, take-append-le, drop-append-le, length-drop, append-nil}
 use Rattle.std.proofs.lemmas.Bool.Decides.{nat_tests}
 use Rattle.definitions_blocks.specs.Words.{word_bytes, words_of}
-use Rattle.definitions_blocks.specs.Blocks.{block_len, block_at, IsFull}
+use Rattle.definitions_blocks.specs.Blocks.{block_values, block_at, IsFull}
 use Rattle.definitions_blocks.specs.Differences.{first_of, delta1_of, delta16_of, least_of, reference_of}
 use Rattle.definitions_blocks.specs.Encodings.{IsCascade, IsDynamicBlock}
 use Rattle.definitions_blocks.specs.Runs.{IsRunsBlock}
@@ -28,7 +28,7 @@ cascade_runs base_of differences_of values bytes is =
     let inner = IsRunsBlock-length (differences_of values) is.inner is.differences in
     omega (arith, ap length is.encoded, length-append (word_bytes (base_of values)) is.inner, length-word_bytes (base_of values), inner)
 
--- a encoding is as long as its block's size
+-- an encoding is as long as its block's size
 pub BlockOf-size : (format : Format) (width : ℕ) (values bytes : List ℕ) → BlockOf format width values bytes → length bytes ≡ block_size format width values
 BlockOf-size plain width values bytes is = IsPlainBlock-size values bytes is
 BlockOf-size static width values bytes is = is.size
@@ -40,27 +40,27 @@ BlockOf-size reference_dynamic width values bytes is = cascade_dynamic least_of 
 BlockOf-size delta1_runs width values bytes is = cascade_runs first_of delta1_of values bytes is
 
 -- a block that lies in the front of a list is the front's
-pub block_at-front : (values rest : List ℕ) (n : ℕ) → (n + 1) * block_len ≤ length values → block_at (values ++ rest) n ≡ block_at values n
+pub block_at-front : (values rest : List ℕ) (n : ℕ) → (n + 1) * block_values ≤ length values → block_at (values ++ rest) n ≡ block_at values n
 block_at-front values rest n within =
-    ap (take block_len) (drop-append-le (n * block_len) values rest (omega arith))
-    ∙ take-append-le block_len (drop (n * block_len) values) rest (omega (arith, length-drop (n * block_len) values))
+    ap (take block_values) (drop-append-le (n * block_values) values rest (omega arith))
+    ∙ take-append-le block_values (drop (n * block_values) values) rest (omega (arith, length-drop (n * block_values) values))
 
 -- the blocks behind the first one
-pub block_at-behind : (block rest : List ℕ) (n : ℕ) → length block ≡ block_len → block_at (block ++ rest) (n + 1) ≡ block_at rest n
+pub block_at-behind : (block rest : List ℕ) (n : ℕ) → length block ≡ block_values → block_at (block ++ rest) (n + 1) ≡ block_at rest n
 block_at-behind block rest n long =
-    let place : (n + 1) * block_len ≡ length block + n * block_len = omega (arith, long) in
-    ap (take block_len) (ap (λ m. drop m (block ++ rest)) place ∙ drop_past block rest (n * block_len))
+    let place : (n + 1) * block_values ≡ length block + n * block_values = omega (arith, long) in
+    ap (take block_values) (ap (λ m. drop m (block ++ rest)) place ∙ drop_past block rest (n * block_values))
 
 -- the sum over the blocks in the front of a list is the front's
-pub sum_blocks-front : (number_of : List ℕ → ℕ) (values rest : List ℕ) (n : ℕ) → n * block_len ≤ length values → sum_blocks number_of (values ++ rest) n ≡ sum_blocks number_of values n
+pub sum_blocks-front : (number_of : List ℕ → ℕ) (values rest : List ℕ) (n : ℕ) → n * block_values ≤ length values → sum_blocks number_of (values ++ rest) n ≡ sum_blocks number_of values n
 sum_blocks-front number_of values rest zero within = refl
 sum_blocks-front number_of values rest (suc n) within =
     ap₂ (λ (a b : ℕ). a + b) (sum_blocks-front number_of values rest n (omega arith)) (ap number_of (block_at-front values rest n (omega arith)))
 
 -- the sum over a block and those behind it
-pub sum_blocks-first : (number_of : List ℕ → ℕ) (block rest : List ℕ) (n : ℕ) → length block ≡ block_len → sum_blocks number_of (block ++ rest) (suc n) ≡ number_of block + sum_blocks number_of rest n
+pub sum_blocks-first : (number_of : List ℕ → ℕ) (block rest : List ℕ) (n : ℕ) → length block ≡ block_values → sum_blocks number_of (block ++ rest) (suc n) ≡ number_of block + sum_blocks number_of rest n
 sum_blocks-first number_of block rest zero long =
-    let first : block_at (block ++ rest) 0 ≡ block = take_at block rest block_len long in
+    let first : block_at (block ++ rest) 0 ≡ block = take_at block rest block_values long in
     omega (arith, ap number_of first)
 sum_blocks-first number_of block rest (suc n) long =
     let place : suc n ≡ n + 1 = omega arith in
@@ -80,7 +80,7 @@ pub piece_bytes-size : (format : Format) (width : ℕ) (pieces : List Piece) (ta
 piece_bytes-size format width [] tail are = refl
 piece_bytes-size format width (piece ∷ pieces) tail are =
     let rest = piece_values pieces ++ tail in
-    let full : length piece.values ≡ block_len = (BlockOf-full format width piece.values piece.encoding are.0).whole in
+    let full : length piece.values ≡ block_values = (BlockOf-full format width piece.values piece.encoding are.0).whole in
     let first = sum_blocks-first (block_size format width) piece.values rest (length pieces) full in
     let same = ap (λ l. sum_blocks (block_size format width) l (suc (length pieces))) (append_assoc piece.values (piece_values pieces) tail) in
     omega (arith, length-append piece.encoding (piece_bytes pieces), BlockOf-size format width piece.values piece.encoding are.0, piece_bytes-size format width pieces tail are.1, first, same)
@@ -91,7 +91,7 @@ IsEncoded-size format width values bytes is =
     let total = encoded_length format width values bytes is in
     let short = is.short in
     let blocks : length is.pieces ≡ whole_count values = omega arith in
-    let rest : length is.tail ≡ length values % block_len = omega arith in
+    let rest : length is.tail ≡ length values % block_values = omega arith in
     let all : length (piece_bytes is.pieces) ≡ blocks_size format width values =
     piece_bytes-size format width is.pieces is.tail is.blocks ∙ ap₂ (λ (l : List ℕ) (n : ℕ). sum_blocks (block_size format width) l n) (sym is.values_are) blocks in
     omega (arith, encoded_size format width values bytes is, all, rest)
@@ -101,18 +101,18 @@ pub IsColumnFile-size : (format : Format) (values bytes : List ℕ) → IsColumn
 IsColumnFile-size format values bytes is = IsEncoded-size format (static_width_of format values) values bytes is
 
 -- one block more
-pub sum_blocks-push : (number_of : List ℕ → ℕ) (values block : List ℕ) → length values % block_len ≡ 0 → length block ≡ block_len
+pub sum_blocks-push : (number_of : List ℕ → ℕ) (values block : List ℕ) → length values % block_values ≡ 0 → length block ≡ block_values
     → sum_blocks number_of (values ++ block) (whole_count (values ++ block)) ≡ sum_blocks number_of values (whole_count values) + number_of block
 sum_blocks-push number_of values block whole full =
     let n = whole_count values in
     let count : whole_count (values ++ block) ≡ suc n = omega (arith, length-append values block) in
-    let place : n * block_len ≡ length values + 0 = omega arith in
+    let place : n * block_values ≡ length values + 0 = omega arith in
     let last : block_at (values ++ block) n ≡ block =
-    ap (take block_len) (ap (λ m. drop m (values ++ block)) place ∙ drop_past values block 0) ∙ take_all block_len block (omega (arith, full)) in
+    ap (take block_values) (ap (λ m. drop m (values ++ block)) place ∙ drop_past values block 0) ∙ take_all block_values block (omega (arith, full)) in
     omega (arith, ap (sum_blocks number_of (values ++ block)) count, sum_blocks-front number_of values block n (omega arith), ap number_of last)
 
 -- some values more, but no whole block
-pub sum_blocks-tail : (number_of : List ℕ → ℕ) (values tail : List ℕ) → length values % block_len + length tail < block_len
+pub sum_blocks-tail : (number_of : List ℕ → ℕ) (values tail : List ℕ) → length values % block_values + length tail < block_values
     → sum_blocks number_of (values ++ tail) (whole_count (values ++ tail)) ≡ sum_blocks number_of values (whole_count values)
 sum_blocks-tail number_of values tail short =
     let count : whole_count (values ++ tail) ≡ whole_count values = omega (arith, length-append values tail) in

@@ -1,7 +1,7 @@
 -- The least width of a column is one that its format can have, and the whole blocks fit it.
 use Rattle.std.proofs.Common.{◌≡◌, ℕ, ◌*◌, ◌/◌, true, List, length, drop, refl, sym, subst}
 use Rattle.std.proofs.lemmas.List.{take-append-drop}
-use Rattle.definitions_blocks.specs.Blocks.{block_len}
+use Rattle.definitions_blocks.specs.Blocks.{block_values}
 use Rattle.definitions_blocks.specs.Packed.{AreBelow, IsWidth}
 use Rattle.definitions_blocks.specs.Encodings.{width_of}
 use Rattle.definitions_blocks.specs.Formats.{Format, plain, static, dynamic, runs, delta1_dynamic, delta16_dynamic, reference_dynamic, delta1_runs, IsColumnWidth}
@@ -11,8 +11,8 @@ use Rattle.definitions_blocks.proofs.EncodingLaws.{IsWidth-width_of, width_of-na
 
 pub whole_below : (width : ℕ) (values : List ℕ) → AreBelow width values → AreBelow width (whole_blocks values)
 whole_below width values small =
-    let rest = drop (length values / block_len * block_len) values in
-    AreBelow-front width (whole_blocks values) rest (subst (AreBelow width) (sym (take-append-drop (length values / block_len * block_len) values)) small)
+    let rest = drop (length values / block_values * block_values) values in
+    AreBelow-front width (whole_blocks values) rest (subst (AreBelow width) (sym (take-append-drop (length values / block_values * block_values) values)) small)
 
 pub static_width_of-lawful : (format : Format) (values : List ℕ) → AreBelow 64 values → IsColumnWidth format (static_width_of format values)
 static_width_of-lawful plain values small = refl

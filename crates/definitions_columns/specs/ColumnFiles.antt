@@ -3,7 +3,7 @@ use Rattle.std.specs.Prelude.{◌≡◌, ℕ, ◌+◌, ◌*◌, ◌/◌, ◌<◌
 use Rattle.std.specs.List.{AllByRecursion}
 use Rattle.definitions_blocks.specs.Words.{word_bytes, words_of}
 use Rattle.definitions_blocks.specs.Columns.{IsColumn}
-use Rattle.definitions_blocks.specs.Blocks.{block_len}
+use Rattle.definitions_blocks.specs.Blocks.{block_values}
 use Rattle.definitions_blocks.specs.Encodings.{fits_width, width_of}
 use Rattle.definitions_blocks.specs.Formats.{Format, tag_of, has_static_width, BlockOf}
 
@@ -17,7 +17,7 @@ head_len = 16
 
 -- the values of the whole blocks
 abbrev pub whole_blocks : List ℕ → List ℕ
-whole_blocks values = take (length values / block_len * block_len) values
+whole_blocks values = take (length values / block_values * block_values) values
 
 -- the static width of a column: the least that holds the values of the whole blocks, and 0 in a format without one
 abbrev pub static_width_of : Format → List ℕ → ℕ
@@ -48,7 +48,7 @@ pub record IsEncoded (format : Format) (width : ℕ) (values bytes : List ℕ) :
   pub pieces : List Piece
   pub tail : List ℕ
   pub blocks : ArePieces format width pieces
-  pub short : length tail < block_len
+  pub short : length tail < block_values
   pub values_are : values ≡ piece_values pieces ++ tail
   pub bytes_are : bytes ≡ column_head (tag_of format) width (length values) ++ (piece_bytes pieces ++ words_of tail)
 

@@ -1,7 +1,7 @@
 -- Why bytes are no column file: the first fault.
 use Rattle.std.specs.Prelude.{◌≡◌, ◌≢◌, ℕ, ◌*◌, ◌/◌, ◌%◌, ◌<◌, ◌≤◌, List, ◌++◌, length}
 use Rattle.definitions_blocks.specs.Columns.{max_rows}
-use Rattle.definitions_blocks.specs.Blocks.{block_len}
+use Rattle.definitions_blocks.specs.Blocks.{block_values}
 use Rattle.definitions_blocks.specs.Formats.{Format, tag_of, IsColumnWidth, LacksBlock}
 use Rattle.definitions_columns.specs.ColumnFiles.{column_head, static_width_of, Piece, ArePieces, piece_values, piece_bytes}
 
@@ -33,13 +33,13 @@ pub data FileFault : Type 0 where
 pub record StopsAt (bytes : List ℕ) (block : ℕ) : Type 0 where
   pub opening : Opening bytes
   pub good : length opening.pieces ≡ block
-  pub more : block < opening.count / block_len
+  pub more : block < opening.count / block_values
   pub stops : LacksBlock opening.format opening.width opening.rest
 
 -- all blocks are good
 pub record HasBlocks (bytes : List ℕ) : Type 0 where
   pub opening : Opening bytes
-  pub all : length opening.pieces ≡ opening.count / block_len
+  pub all : length opening.pieces ≡ opening.count / block_values
 
 -- the width that the good blocks ask for
 abbrev pub asked_width : {bytes : List ℕ} → Opening bytes → ℕ
@@ -50,4 +50,4 @@ abbrev pub HasFileFault : List ℕ → FileFault → Type 0
 HasFileFault bytes bad_header = Opening bytes → ⊥
 HasFileFault bytes (bad_block block) = StopsAt bytes block
 HasFileFault bytes bad_width = (has : HasBlocks bytes) × (has.opening.width ≢ asked_width has.opening)
-HasFileFault bytes bad_tail = (has : HasBlocks bytes) × (has.opening.width ≡ asked_width has.opening) × (length has.opening.rest ≢ 8 * (has.opening.count % block_len))
+HasFileFault bytes bad_tail = (has : HasBlocks bytes) × (has.opening.width ≡ asked_width has.opening) × (length has.opening.rest ≢ 8 * (has.opening.count % block_values))

@@ -1,6 +1,6 @@
 -- How long the files of a column are.
 use Rattle.std.specs.Prelude.{ℕ, zero, suc, ◌+◌, ◌*◌, ◌/◌, ◌%◌, Bool, ◌&&◌, nat_le, List, length}
-use Rattle.definitions_blocks.specs.Blocks.{block_len, block_at}
+use Rattle.definitions_blocks.specs.Blocks.{block_values, block_at}
 use Rattle.definitions_blocks.specs.Encodings.{width_of}
 use Rattle.definitions_blocks.specs.Differences.{delta1_of, delta16_of, reference_of}
 use Rattle.definitions_blocks.specs.Runs.{run_count}
@@ -33,7 +33,7 @@ block_size delta1_runs width values = 8 + runs_size (delta1_of values)
 
 -- how many whole blocks a list has
 abbrev pub whole_count : List ℕ → ℕ
-whole_count values = length values / block_len
+whole_count values = length values / block_values
 
 -- how long the whole blocks of a list are
 abbrev pub blocks_size : Format → ℕ → List ℕ → ℕ
@@ -45,7 +45,7 @@ front_size format width values = head_len + blocks_size format width values
 
 -- how long a list's file is at a width
 abbrev pub file_size : Format → ℕ → List ℕ → ℕ
-file_size format width values = front_size format width values + 8 * (length values % block_len)
+file_size format width values = front_size format width values + 8 * (length values % block_values)
 
 -- how long a list's one file is in a format
 abbrev pub size_of : Format → List ℕ → ℕ

@@ -5,7 +5,7 @@ use Rattle.std.specs.List.{AllByRecursion}
 use Rattle.std.specs.Simd.{first_chunks}
 use Rattle.std.proofs.Math.Seq.{take-add}
 use Rattle.std.proofs.lemmas.List.{length-take, length-drop, length-replicate, get_or-take, get_or-drop, get_or_past, take-append-drop, take_at, drop_at, append-nil}
-use Rattle.definitions_blocks.specs.Blocks.{block_len}
+use Rattle.definitions_blocks.specs.Blocks.{block_values}
 use Rattle.definitions_blocks.specs.Words.{IsWord, word_bytes}
 use Rattle.definitions_blocks.specs.Runs.{Run, run_values, NeighboursDiffer, AreRunsOf, two_bytes, run_bytes, run_count, IsRunsBlock}
 use Rattle.definitions_blocks.proofs.WordLaws.{length-word_bytes, from_le_bytes-word_bytes, word_bytes-from_le_bytes}
@@ -155,7 +155,7 @@ block_in_front bytes are begins =
     let count = count_in bytes in
     let runs = map run_in (cells_in count bytes) in
     let long : length runs ≡ count = length-runs_in count (drop 2 bytes) in
-    let passed : Passed None block_len runs = Passes-gives None block_len runs begins.passes in
+    let passed : Passed None block_values runs = Passes-gives None block_values runs begins.passes in
     let are_runs : AreRunsOf runs (run_values runs) = record { cover = refl; nonempty = passed.nonempty; maximal = passed.maximal } in
     let head : two_bytes (length runs) ≡ take 2 bytes = ap two_bytes long ∙ two_bytes-count_in bytes begins.headed are in
     let body : flat_map run_bytes runs ≡ take (10 * count) (drop 2 bytes) =
@@ -206,7 +206,7 @@ begins_with_block values encoding rest bytes is e =
       some = omega (arith, front.headed, front.few.some);
       most = omega (arith, front.headed, front.few.most);
       whole = front.size;
-      passes = Passes-from None block_len runs front.are.nonempty front.are.maximal (Follows-none runs) (ap length front.are.cover ∙ is.full.whole);
+      passes = Passes-from None block_values runs front.are.nonempty front.are.maximal (Follows-none runs) (ap length front.are.cover ∙ is.full.whole);
     }
   where
     Follows-none : (runs : List Run) → Follows None runs

@@ -2,7 +2,7 @@
 use Rattle.std.specs.Prelude.{◌≡◌, ◌≢◌, ℕ, ◌+◌, ◌-◌, ◌*◌, ◌<◌, ◌≤◌, List, [], ◌∷◌, length, take, drop, map, Option, Some, None}
 use Rattle.std.specs.Int.{from_le_bytes, w16, w64}
 use Rattle.std.specs.Simd.{first_chunks}
-use Rattle.definitions_blocks.specs.Blocks.{block_len}
+use Rattle.definitions_blocks.specs.Blocks.{block_values}
 use Rattle.definitions_blocks.specs.Runs.{Run}
 use Rattle.run_formats.specs.declared.pairs.RunIter.{RunIter}
 
@@ -37,7 +37,7 @@ pub record BeginsWithRuns (bytes : List ℕ) : Type 0 where
   pub some : 0 < count_in bytes
   pub most : count_in bytes ≤ 1024
   pub whole : 2 + 10 * count_in bytes ≤ length bytes
-  pub passes : Passes None block_len (map run_in (cells_in (count_in bytes) bytes))
+  pub passes : Passes None block_values (map run_in (cells_in (count_in bytes) bytes))
 
 -- the run that a pair says
 abbrev pub run_of : ℕ × ℕ → Run

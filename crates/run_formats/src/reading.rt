@@ -1,7 +1,7 @@
 //! Reading a block: what its bytes have to be, and its values.
 
 ghost use Rattle.std.specs.Prelude.{◌≡◌, ◌≢◌, ◌↔◌, ℕ, List, length, map, replicate, slice_index, take, ◌<◌, ◌≤◌, IsTrue, MatchOption, Some, None};
-ghost use Rattle.definitions_blocks.specs.Blocks.{block_len};
+ghost use Rattle.definitions_blocks.specs.Blocks.{block_values};
 ghost use Rattle.definitions_blocks.specs.Runs.{run_values, IsRunsBlock};
 ghost use Rattle.run_formats.specs.Cells.{count_in, run_in, Passes, BeginsWithRuns};
 
@@ -29,7 +29,7 @@ pub fn found_count(bytes: &[u8]) -> Option<u16>
 
 /// Whether the cells are the runs of a full block. It stops at the first that cannot be.
 fn are_runs(cells: &[[u8; 10]]) -> bool
-    ensures { IsTrue result ↔ Passes None block_len (map run_in cells.now) }
+    ensures { IsTrue result ↔ Passes None block_values (map run_in cells.now) }
 {
     let mut before = None;
     let mut left = MAX_RUNS;
@@ -59,7 +59,7 @@ fn goes_on(before: Option<u64>, value: u64) -> bool
 /// The value at a place of the block that these bytes encode. It goes over the runs before the value and writes nothing.
 pub fn pick(bytes: &[u8], place: usize) -> u64
     requires encoded { (values : List ℕ) × IsRunsBlock values bytes.now }
-    requires within { place < block_len }
+    requires within { place < block_values }
     ensures { (values : List ℕ) → IsRunsBlock values bytes.now → result ≡ slice_index values place }
 {
     value_at(cells_of(bytes, run_count_in(bytes)), place)

@@ -4,7 +4,7 @@
 //! values is put above the bits that their words have, and full words are written.
 
 ghost use Rattle.std.specs.Prelude.{◌≡◌, ℕ, ◌+◌, ◌-◌, ◌*◌, ◌/◌, ◌%◌, ◌^◌, ◌<◌, ◌≤◌, ◌⊎◌, length, slice_index, bit_or};
-ghost use Rattle.definitions_blocks.specs.Blocks.{block_len};
+ghost use Rattle.definitions_blocks.specs.Blocks.{block_values};
 ghost use Rattle.definitions_blocks.specs.Packed.{AreBelow, IsPacked};
 ghost use Rattle.strand_pack.specs.Words.{AreEncoded};
 
@@ -15,7 +15,7 @@ use lane_core::Lanes;
 /// Writes the block at the width, in `128 * width` bytes. At a lane width `L` other than 1, 2, 4, 8 and 16 it works as at 1,
 /// and the bytes are the same at every one.
 pub fn pack<const L: usize>(full: &Block, width: u8, into: &mut [u8])
-    requires whole { length full.now ≡ block_len }
+    requires whole { length full.now ≡ block_values }
     requires narrow { width ≤ 64 }
     requires small { AreBelow width full.now }
     requires size { length into.old ≡ 128 * width }
@@ -26,7 +26,7 @@ pub fn pack<const L: usize>(full: &Block, width: u8, into: &mut [u8])
 
 // The lane width is chosen once for a block.
 fn pack_values<const L: usize>(full: &[u64], width: u32, into: &mut [u8])
-    requires whole { length full.now ≡ block_len }
+    requires whole { length full.now ≡ block_values }
     requires narrow { width ≤ 64 }
     requires small { AreBelow width full.now }
     requires size { length into.old ≡ 128 * width }
@@ -44,7 +44,7 @@ fn pack_values<const L: usize>(full: &[u64], width: u32, into: &mut [u8])
 fn pack_groups<const L: usize>(full: &[u64], width: u32, into: &mut [u8])
     requires few { L ≤ 16 }
     requires even { 16 / L * L ≡ 16 }
-    requires whole { length full.now ≡ block_len }
+    requires whole { length full.now ≡ block_values }
     requires narrow { width ≤ 64 }
     requires small { AreBelow width full.now }
     requires size { length into.old ≡ 128 * width }
@@ -60,7 +60,7 @@ fn pack_groups<const L: usize>(full: &[u64], width: u32, into: &mut [u8])
 fn pack_strands<const L: usize>(full: &[u64], width: u32, first: usize, into: &mut [u8])
     requires few { L ≤ 16 }
     requires strands { first + L ≤ 16 }
-    requires whole { length full.now ≡ block_len }
+    requires whole { length full.now ≡ block_values }
     requires narrow { width ≤ 64 }
     requires small { AreBelow width full.now }
     requires size { length into.old ≡ 128 * width }

@@ -1,7 +1,7 @@
 //! One value of a packed block.
 
 ghost use Rattle.std.specs.Prelude.{◌≡◌, ℕ, ◌*◌, ◌<◌, ◌≤◌, List, length, slice_index};
-ghost use Rattle.definitions_blocks.specs.Blocks.{block_len};
+ghost use Rattle.definitions_blocks.specs.Blocks.{block_values};
 ghost use Rattle.definitions_blocks.specs.Packed.{IsPacked};
 
 use crate::words::{STRANDS, WORD_BITS, word_at};
@@ -11,7 +11,7 @@ use crate::words::{STRANDS, WORD_BITS, word_at};
 pub fn pick(bytes: &[u8], width: u8, place: usize) -> u64
     requires narrow { width ≤ 64 }
     requires size { length bytes.now ≡ 128 * width }
-    requires within { place < block_len }
+    requires within { place < block_values }
     ensures { (values : List ℕ) → IsPacked width values bytes.now → result ≡ slice_index values place }
 {
     if width == 0 {

@@ -4,7 +4,7 @@
 //! words, from one line of 16 words or from two.
 
 ghost use Rattle.std.specs.Prelude.{◌≡◌, ℕ, ◌+◌, ◌-◌, ◌*◌, ◌/◌, ◌%◌, ◌^◌, ◌<◌, ◌≤◌, length, slice_index, bit_and, bit_or};
-ghost use Rattle.definitions_blocks.specs.Blocks.{block_len};
+ghost use Rattle.definitions_blocks.specs.Blocks.{block_values};
 ghost use Rattle.definitions_blocks.specs.Packed.{IsPacked};
 ghost use Rattle.strand_pack.specs.Words.{word_of, field, value_in};
 
@@ -27,7 +27,7 @@ pub fn unpack<const L: usize>(bytes: &[u8], width: u8, into: &mut Block)
 fn unpack_into<const L: usize>(bytes: &[u8], width: usize, into: &mut [u64])
     requires narrow { width ≤ 64 }
     requires size { length bytes.now ≡ 128 * width }
-    requires whole { length into.old ≡ block_len }
+    requires whole { length into.old ≡ block_values }
     ensures { IsPacked width into.new bytes.now }
 {
     match L {
@@ -44,7 +44,7 @@ fn unpack_rows<const L: usize>(bytes: &[u8], width: usize, into: &mut [u64])
     requires even { 16 / L * L ≡ 16 }
     requires narrow { width ≤ 64 }
     requires size { length bytes.now ≡ 128 * width }
-    requires whole { length into.old ≡ block_len }
+    requires whole { length into.old ≡ block_values }
     ensures { IsPacked width into.new bytes.now }
 {
     for row in 0..ROWS {

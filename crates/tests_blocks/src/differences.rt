@@ -1,7 +1,7 @@
 //! The transforms at blocks whose base and differences were worked out by hand.
 
 ghost use Rattle.std.specs.Prelude.{◌≡◌, ◌<◌, ◌^◌, ℕ, length, slice_index};
-ghost use Rattle.definitions_blocks.specs.Blocks.{block_len};
+ghost use Rattle.definitions_blocks.specs.Blocks.{block_values};
 
 use block_core::{Block, Transform};
 use cascade_formats::{Delta1, Delta16, Reference};
@@ -17,7 +17,7 @@ fn words_fit(values: &[u64])
 
 // Each value is the one before and a step, mod 2^64.
 fn rising(first: u64, step: u64) -> Block
-    ensures { length result ≡ block_len }
+    ensures { length result ≡ block_values }
 {
     let mut block = Block::new();
     block.fill();
@@ -31,7 +31,7 @@ fn rising(first: u64, step: u64) -> Block
 
 // Values with no order: each is the one before, times an odd number and one more.
 fn scattered() -> Block
-    ensures { length result ≡ block_len }
+    ensures { length result ≡ block_values }
 {
     let mut block = Block::new();
     block.fill();
@@ -55,7 +55,7 @@ fn are(values: &[u64], first: u64, others: u64) -> bool {
 
 // A split is allowed, and a join undoes it.
 fn goes_round<T: Transform<Base = u64>>(rt: &impl Abort, full: &Block, case: &str)
-    requires { length full.now ≡ block_len }
+    requires { length full.now ≡ block_values }
 {
     words_fit(full.as_slice());
     let mut differences = Block::new();

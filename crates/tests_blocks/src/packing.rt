@@ -1,7 +1,7 @@
 //! Round trips at every width and lane width, and blocks whose bytes were worked out by hand.
 
 ghost use Rattle.std.specs.Prelude.{◌≡◌, ◌*◌, ◌≤◌, length, IfOk};
-ghost use Rattle.definitions_blocks.specs.Blocks.{block_len};
+ghost use Rattle.definitions_blocks.specs.Blocks.{block_values};
 ghost use Rattle.definitions_blocks.specs.Packed.{AreBelow};
 
 use block_core::Block;
@@ -23,7 +23,7 @@ fn room_for(alloc: Global, width: u8) -> Result<Vec<u8>, AllocError>
 
 // The block whose strands each repeat one value.
 fn block_of(strands: &[u64; 16]) -> Block
-    ensures { length result ≡ block_len }
+    ensures { length result ≡ block_values }
 {
     let mut block = Block::new();
     block.fill();
@@ -42,7 +42,7 @@ fn expect_at<const L: usize>(
     expected: &[u8],
     case: &str,
 ) -> Result<(), Fail>
-    requires whole { length block.now ≡ block_len }
+    requires whole { length block.now ≡ block_values }
     requires narrow { width ≤ 64 }
     requires small { AreBelow width block.now }
 {

@@ -1,18 +1,18 @@
 use Rattle.std.proofs.Common.{◌≡◌, ◌+◌, ◌*◌, ◌++◌, List, ℕ, length, take, sym, ap, ap₂, ◌∙◌, arith}
-use Rattle.definitions_blocks.specs.Blocks.{block_len, block_at}
+use Rattle.definitions_blocks.specs.Blocks.{block_values, block_at}
 use Rattle.definitions_columns.proofs.PieceLaws.{take_blocks}
 use Rattle.engine_tool.proofs.decoding.decoded.Goals as goal
 
 pub loop-number-preserved : goal.loop-number-preserved
 loop-number-preserved c =
     let values = c.args.column.now.values in
-    let at = c.loop-number.number * block_len in
+    let at = c.loop-number.number * block_values in
     let block : c.as_slice.result.now ≡ block_at values c.loop-number.number =
     c.as_slice.ensures.values ∙ c.block.ensures.values ∙ ap (λ l. block_at l c.loop-number.number) c.loop-number.invariant.source in
-    let next : at + block_len ≡ (c.loop-number.number + 1) * block_len = omega arith in
+    let next : at + block_values ≡ (c.loop-number.number + 1) * block_values = omega arith in
     record {
       decoded =
           c.in_ok-extend_from_slice.ensures.items ∙ ap₂ (λ (a : List ℕ) (b : List ℕ). a ++ b) c.loop-number.invariant.decoded block
-          ∙ take_blocks at block_len values ∙ ap (λ n. take n values) next;
+          ∙ take_blocks at block_values values ∙ ap (λ n. take n values) next;
       source = c.block.ensures.list ∙ c.loop-number.invariant.source;
     }

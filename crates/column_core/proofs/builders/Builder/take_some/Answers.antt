@@ -1,7 +1,7 @@
 use Rattle.std.proofs.Common.{◌≡◌, ◌≤◌, ◌+◌, ◌%◌, ℕ, List, ◌++◌, [], length, take, drop, true, refl, sym, ap, ap₂, ◌∙◌, subst, arith, length-append, append_assoc}
 use Rattle.std.proofs.lemmas.Bool.{false≢true}
 use Rattle.std.proofs.lemmas.List.{append-nil, length-take, take-append-drop}
-use Rattle.definitions_blocks.specs.Blocks.{block_len}
+use Rattle.definitions_blocks.specs.Blocks.{block_values}
 use Rattle.definitions_blocks.specs.Columns.{max_rows}
 use Rattle.definitions_columns.specs.ColumnFiles.{fits_columns}
 use Rattle.definitions_columns.specs.Sizes.{is_within_room}
@@ -20,7 +20,7 @@ record Held (encoded : Encoding) (block : List ℕ) (before : Encoding) : Type 0
 
 -- after a full block was encoded
 flushed : (old new before : Encoding) (block empty : List ℕ) → IsBuilding old.format old.width old.values block → encoding_of old.format old.width old.reserve (old.values ++ block) ≡ before
-    → length block ≡ block_len → new ≡ encoding_of old.format old.width old.reserve (old.values ++ block) → empty ≡ [] → Held new empty before
+    → length block ≡ block_values → new ≡ encoding_of old.format old.width old.reserve (old.values ++ block) → empty ≡ [] → Held new empty before
 flushed old new before block empty is same full made none =
     let all = old.values ++ block in
     let nothing : all ++ empty ≡ all = ap (λ (l : List ℕ). all ++ l) none ∙ append-nil all in
@@ -38,7 +38,7 @@ flushed old new before block empty is same full made none =
 
 -- some values more in the block that waits
 waiting : (encoded before : Encoding) (block values : List ℕ) (n : ℕ) → Held encoded block before → length before.values + length values ≤ max_rows
-    → fits_columns (format_of before.format) before.width (before.values ++ values) ≡ true → length block + n ≤ block_len → IsBuilding encoded.format encoded.width encoded.values (block ++ take n values)
+    → fits_columns (format_of before.format) before.width (before.values ++ values) ≡ true → length block + n ≤ block_values → IsBuilding encoded.format encoded.width encoded.values (block ++ take n values)
 waiting encoded before block values n held few fits room =
     let all = encoded.values ++ block in
     let counted : length all + length values ≤ max_rows = subst (λ (e : Encoding). length e.values + length values ≤ max_rows) (sym held.same) few in
@@ -58,7 +58,7 @@ held : (c : After-append) → Held c.if-as_slice-eq-BLOCK_LEN.self-inside.encode
 held c =
     elim c.if-as_slice-eq-BLOCK_LEN.branch [
       | then-as_slice-eq-BLOCK_LEN+in_ok-flush w ↦
-          let full : length c.self.inside.block ≡ block_len = omega (arith, ap length c.as_slice.ensures.values, w.if-as_slice-eq-BLOCK_LEN.true) in
+          let full : length c.self.inside.block ≡ block_values = omega (arith, ap length c.as_slice.ensures.values, w.if-as_slice-eq-BLOCK_LEN.true) in
           rw w.self-inside-is (flushed c.self.inside.encoded w.flush.new.encoded c.args.self.now c.self.inside.block w.flush.new.block c.self.invariant c.self.view_is full w.in_ok-flush.ensures.ok w.in_ok-flush.ensures.emptied)
       | else-as_slice-eq-BLOCK_LEN w ↦ rw w.self-inside-is (record { building = c.self.invariant; same = c.self.view_is })
     ]
@@ -68,7 +68,7 @@ invariant_of-self-2 c =
     let i = c.if-as_slice-eq-BLOCK_LEN.self-inside in
     let n = c.min-count.result in
     let block : c.append.new.self ≡ i.block ++ take n c.args.values.now = c.append.ensures ∙ ap (λ (l : List ℕ). i.block ++ l) c.first_of.ensures in
-    let room : length i.block + n ≤ block_len = omega (arith, ap length c.as_slice-2.ensures.values, c.as_slice-2.ensures.short) in
+    let room : length i.block + n ≤ block_values = omega (arith, ap length c.as_slice-2.ensures.values, c.as_slice-2.ensures.short) in
     subst (IsBuilding i.encoded.format i.encoded.width i.encoded.values) (sym block) (waiting i.encoded c.args.self.now i.block c.args.values.now n (held c) c.requires.few c.requires.in_scope room)
 
 pub returns-in_err-flush-clause-sure : goal.returns-in_err-flush-clause-sure
