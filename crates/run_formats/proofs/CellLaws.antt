@@ -218,8 +218,8 @@ pub block_runs : (values bytes : List ℕ) → IsRunsBlock values bytes → Fron
 block_runs values bytes is = front_runs values bytes [] bytes is (sym (append-nil bytes))
 
 -- the values that the cells of a block have
-pub block_values : (values bytes : List ℕ) (runs : ℕ) (cells : List (List ℕ)) → IsRunsBlock values bytes → runs ≡ run_count values → cells ≡ cells_in runs bytes → run_values (map run_in cells) ≡ values
-block_values values bytes runs cells is head e =
+pub block_values_in_cells : (values bytes : List ℕ) (runs : ℕ) (cells : List (List ℕ)) → IsRunsBlock values bytes → runs ≡ run_count values → cells ≡ cells_in runs bytes → run_values (map run_in cells) ≡ values
+block_values_in_cells values bytes runs cells is head e =
     let front : FrontRuns values bytes = block_runs values bytes is in
     ap (λ (list : List (List ℕ)). run_values (map run_in list)) e
     ∙ ap (λ (n : ℕ). run_values (map run_in (cells_in n bytes))) (head ∙ sym front.headed) ∙ front.are.cover

@@ -1,7 +1,7 @@
 use Rattle.std.proofs.Common.{◌≡◌, length, map, get_or, ap, ◌∙◌, arith}
 use Rattle.definitions_blocks.specs.Runs.{run_values}
 use Rattle.run_formats.specs.Cells.{run_in}
-use Rattle.run_formats.proofs.CellLaws.{FrontRuns, block_runs, block_values}
+use Rattle.run_formats.proofs.CellLaws.{FrontRuns, block_runs, block_values_in_cells}
 use Rattle.run_formats.proofs.reading.pick.Goals as goal
 
 pub run_count_in-requires : goal.run_count_in-requires
@@ -21,12 +21,12 @@ value_at-requires c =
     let is = c.requires.encoded.1 in
     let front : FrontRuns values c.args.bytes.now = block_runs values c.args.bytes.now is in
     let same : run_values (map run_in c.cells_of.result.now) ≡ values =
-    block_values values c.args.bytes.now c.run_count_in.result c.cells_of.result.now is (c.run_count_in.ensures ∙ front.headed) c.cells_of.ensures in
+    block_values_in_cells values c.args.bytes.now c.run_count_in.result c.cells_of.result.now is (c.run_count_in.ensures ∙ front.headed) c.cells_of.ensures in
     omega (arith, ap length same, is.full.whole, c.requires.within)
 
 pub returns : goal.returns
 returns c = λ values is.
     let front : FrontRuns values c.args.bytes.now = block_runs values c.args.bytes.now is in
     let same : run_values (map run_in c.cells_of.result.now) ≡ values =
-    block_values values c.args.bytes.now c.run_count_in.result c.cells_of.result.now is (c.run_count_in.ensures ∙ front.headed) c.cells_of.ensures in
+    block_values_in_cells values c.args.bytes.now c.run_count_in.result c.cells_of.result.now is (c.run_count_in.ensures ∙ front.headed) c.cells_of.ensures in
     c.value_at.ensures ∙ ap (λ list. get_or list c.args.place 0) same

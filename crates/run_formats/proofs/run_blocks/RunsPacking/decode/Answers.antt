@@ -2,7 +2,7 @@ use Rattle.std.proofs.Common.{◌≡◌, ◌++◌, length, take, drop, map, sym,
 use Rattle.std.proofs.lemmas.List.{take_at}
 use Rattle.definitions_blocks.specs.Runs.{run_values, IsRunsBlock}
 use Rattle.run_formats.specs.Cells.{run_in}
-use Rattle.run_formats.proofs.CellLaws.{FrontRuns, block_runs, block_values}
+use Rattle.run_formats.proofs.CellLaws.{FrontRuns, block_runs, block_values_in_cells}
 use Rattle.run_formats.proofs.run_blocks.RunsPacking.decode.Goals as goal
 
 pub cells_of-requires : goal.cells_of-requires
@@ -13,13 +13,13 @@ cells_of-requires c =
 pub write_values-requires : goal.write_values-requires
 write_values-requires c =
     let read : run_values (map run_in c.cells_of.result.now) ≡ c.requires.values =
-    block_values c.requires.values c.args.bytes.now c.args.runs c.cells_of.result.now c.requires.encoded c.requires.headed c.cells_of.ensures in
+    block_values_in_cells c.requires.values c.args.bytes.now c.args.runs c.cells_of.result.now c.requires.encoded c.requires.headed c.cells_of.ensures in
     ap length c.as_mut_slice.ensures.value ∙ c.fill.ensures ∙ sym (ap length read ∙ c.requires.encoded.full.whole)
 
 pub returns : goal.returns
 returns c =
     let read : c.write_values.new.into ≡ c.requires.values =
-    c.write_values.ensures ∙ block_values c.requires.values c.args.bytes.now c.args.runs c.cells_of.result.now c.requires.encoded c.requires.headed c.cells_of.ensures in
+    c.write_values.ensures ∙ block_values_in_cells c.requires.values c.args.bytes.now c.args.runs c.cells_of.result.now c.requires.encoded c.requires.headed c.cells_of.ensures in
     let written = c.write_values.new.into in
     let long : length written ≡ length c.fill.new.self = ap length read ∙ c.requires.encoded.full.whole ∙ sym c.fill.ensures in
     let kept : take (length c.fill.new.self) (written ++ drop (length written) c.fill.new.self) ≡ c.requires.values =
