@@ -1,2 +1,5 @@
+pub mod ListLaws
+pub mod PlaceLaws
+pub mod PositionLaws
 pub mod SumLaws
 pub mod WorkedExamples

@@ -1,34 +1,26 @@
 -- A selection and a projection keep the values of the rows that pass the test.
-use Rattle.std.proofs.Common.{◌≡◌, ℕ, ◌+◌, ◌^◌, ◌<◌, Bool, true, false, cond, List, [], ◌∷◌, ◌++◌, length, map, get_or, refl, ap, subst, arith, length-append, append_assoc, add-zero}
-use Rattle.std.specs.Prelude.{Option, Some, None, sum, slice_index, if◌then◌else◌}
-use Rattle.std.proofs.lemmas.List.{get_or-append-add}
-use Rattle.definitions_operators.specs.Operators.{is_within, positions_from, positions_in, values_at}
-use Rattle.definitions_operators.specs.Sums.{kept_values, IsSum}
-
--- one row more, kept or not
-one_row : (b : Bool) (at : ℕ → ℕ) (position value test : ℕ) (positions : List ℕ) (rows : List (ℕ × ℕ)) → at position ≡ value → map at positions ≡ map (λ row. row.0) rows
-    → map at (if b then position ∷ positions else positions) ≡ map (λ row. row.0) (cond b ((value, test) ∷ rows) rows)
-one_row true at position value test positions rows here rest = λ i. here i ∷ rest i
-one_row false at position value test positions rows here rest = rest
-
-rows_from : (tested values before : List ℕ) (low high : ℕ) → length values ≡ length tested
-    → map (λ position. slice_index (before ++ values) position) (positions_from (length before) low high tested) ≡ kept_values values tested low high
-rows_from [] [] before low high same = refl
-rows_from [] (v ∷ values) before low high same = absurd (omega arith)
-rows_from (t ∷ tested) [] before low high same = absurd (omega arith)
-rows_from (t ∷ tested) (v ∷ values) before low high same =
-    let later = rows_from tested values (before ++ v ∷ []) low high (omega arith) in
-    let at : List ℕ → ℕ → Type 0 = λ l n. map (λ position. slice_index l position) (positions_from n low high tested) ≡ kept_values values tested low high in
-    let moved : at (before ++ v ∷ values) (length (before ++ v ∷ [])) = subst (λ l. at l (length (before ++ v ∷ []))) (append_assoc before (v ∷ []) values) later in
-    let rest : at (before ++ v ∷ values) (length before + 1) = subst (λ n. at (before ++ v ∷ values) n) (length-append before (v ∷ [])) moved in
-    let here : slice_index (before ++ v ∷ values) (length before) ≡ v = subst (λ n. get_or (before ++ v ∷ values) n 0 ≡ v) (add-zero (length before)) (get_or-append-add before (v ∷ values) 0 0) in
-    one_row (is_within low high t) (λ position. slice_index (before ++ v ∷ values) position) (length before) v t _ _ here rest
+use Rattle.std.proofs.Common.{◌≡◌, ◌∙◌, ap, sym, ℕ, Bool, List, map, length, get_or, arith}
+use Rattle.std.specs.Prelude.{slice_index, zip}
+use Rattle.std.proofs.Math.ListN.{get_or-map}
+use Rattle.std.proofs.lemmas.Simd.{map-map}
+use Rattle.std.proofs.lemmas.Slice.Zip.{firsts-zip, seconds-zip, length-zip}
+use Rattle.definitions_operators.specs.Operators.{places_where, is_within, positions_in, values_at}
+use Rattle.definitions_operators.specs.Sums.{kept_values}
+use Rattle.definitions_operators.proofs.PlaceLaws.{places_where-read}
 
 -- the values at the positions of a selection are those of the rows that it keeps
 pub values_at-positions_in : (values tested : List ℕ) (low high : ℕ) → length values ≡ length tested → values_at values (positions_in low high tested) ≡ kept_values values tested low high
-values_at-positions_in values tested low high same = rows_from tested values [] low high same
-
--- where the sum is too large, there is none
-pub IsSum-none : (kept : List ℕ) → (sum kept < 2 ^ 64 → ⊥) → (total : Option ℕ) → IsSum kept total → ⊥
-IsSum-none kept large None is = large (omega (arith, ap sum is))
-IsSum-none kept large (Some total) is = large (omega (arith, is.1, is.2))
+values_at-positions_in values tested low high same =
+    let rows : List (ℕ × ℕ) = zip values tested in
+    let row : ℕ → ℕ × ℕ = λ place. get_or rows place (0, 0) in
+    let kept : ℕ × ℕ → Bool = λ row. is_within low high row.1 in
+    let long : length tested ≡ length rows = omega (arith, length-zip values tested) in
+    let value : (place : ℕ) → slice_index values place ≡ (row place).0 =
+    λ place. ap (λ l. slice_index l place) (sym (firsts-zip values tested (sym same))) ∙ get_or-map (λ (row : ℕ × ℕ). row.0) rows place (0, 0) in
+    let test : (place : ℕ) → slice_index tested place ≡ (row place).1 =
+    λ place. ap (λ l. slice_index l place) (sym (seconds-zip values tested (sym same))) ∙ get_or-map (λ (row : ℕ × ℕ). row.1) rows place (0, 0) in
+    ap (values_at values) (ap (places_where (λ place. is_within low high (slice_index tested place))) long)
+    ∙ ap (λ (at : ℕ → ℕ). values_at values (places_where (λ place. is_within low high (at place)) (length rows))) (λ i place. test place i)
+    ∙ ap (λ (at : ℕ → ℕ). map at (places_where (λ place. kept (row place)) (length rows))) (λ i place. value place i)
+    ∙ sym (map-map (λ (row : ℕ × ℕ). row.0) row (places_where (λ place. kept (row place)) (length rows)))
+    ∙ ap (map (λ (row : ℕ × ℕ). row.0)) (places_where-read (0, 0) kept rows)

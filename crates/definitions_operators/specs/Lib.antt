@@ -1,3 +1,4 @@
 pub mod Operators
+pub mod Positions
 pub mod Sums
 pub mod Costs

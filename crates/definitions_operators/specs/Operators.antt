@@ -1,19 +1,22 @@
 -- What the operators compute, on whole lists.
-use Rattle.std.specs.Prelude.{ℕ, ◌+◌, Bool, ◌&&◌, nat_le, List, [], ◌∷◌, map, slice_index, if◌then◌else◌}
+use Rattle.std.specs.Prelude.{ℕ, Bool, ◌&&◌, nat_le, List, map, filter, length, slice_index}
+use Rattle.std.specs.List.{range_with_len}
+
+-- the places of a list of n values, rising
+abbrev pub places : ℕ → List ℕ
+places n = range_with_len 0 n
+
+-- those of n places at which the test holds, rising
+abbrev pub places_where : (ℕ → Bool) → ℕ → List ℕ
+places_where test n = filter test (places n)
 
 -- whether a value is from low to high
 abbrev pub is_within : ℕ → ℕ → ℕ → Bool
 is_within low high value = nat_le low value && nat_le value high
 
--- the rows from `row` on whose value is from low to high, rising
-abbrev pub positions_from : ℕ → ℕ → ℕ → List ℕ → List ℕ
-positions_from row low high [] = []
-positions_from row low high (value ∷ values) =
-    if is_within low high value then row ∷ positions_from (row + 1) low high values else positions_from (row + 1) low high values
-
--- a selection: the position list of the values from low to high
+-- a selection: the places of the values from low to high
 abbrev pub positions_in : ℕ → ℕ → List ℕ → List ℕ
-positions_in low high values = positions_from 0 low high values
+positions_in low high values = places_where (λ place. is_within low high (slice_index values place)) (length values)
 
 -- a projection: the values at the positions
 abbrev pub values_at : List ℕ → List ℕ → List ℕ

@@ -3,9 +3,9 @@
 //! A branch on values in no order is guessed wrong every other time, which costs more than all the rest. So each row of a
 //! block is written into room on the stack, where the next row takes its place unless the value was in the range.
 
-ghost use Rattle.std.specs.Prelude.{◌≡◌, ◌+◌, ◌^◌, ◌<◌, ◌≤◌, ◌++◌, All, take, length, IfOk, OnOk};
-ghost use Rattle.std.specs.List.Sorted.{IsStrictlyIncreasing};
-ghost use Rattle.definitions_operators.specs.Operators.{is_within, positions_from, positions_in};
+ghost use Rattle.std.specs.Prelude.{◌≡◌, ◌+◌, ◌^◌, ◌<◌, ◌≤◌, ◌++◌, All, map, take, length, slice_index, IfOk, OnOk};
+ghost use Rattle.definitions_operators.specs.Operators.{is_within, positions_in};
+ghost use Rattle.definitions_operators.specs.Positions.{IsPositionList};
 
 use std::alloc::{AllocError, Global};
 use stream_core::List;
@@ -21,14 +21,14 @@ pub fn select<const L: usize>(
     high: u64,
 ) -> Result<List<u64>, AllocError>
     ensures positions { IfOk result (λ positions. positions ≡ positions_in low high values.now) }
+    ensures list { IfOk result (IsPositionList (λ place. is_within low high (slice_index values.now place)) (length values.now)) }
     ensures within { IfOk result (λ positions. All (λ position. position < length values.now) positions) }
-    ensures rising { IfOk result IsStrictlyIncreasing }
 {
     let positions = positions_of(alloc, values, low, high)?;
     Ok(List::from_vec(positions))
 }
 
-#[tactic(auto, using(crate::proofs::PositionsLemmas::positions_in_none))]
+#[tactic(auto, using(definitions_operators::proofs::PositionLaws::positions_in_none))]
 fn positions_of(alloc: Global, values: &[u64], low: u64, high: u64) -> Result<Vec<u64>, AllocError>
     ensures { IfOk result (λ positions. positions.items ≡ positions_in low high values.now) }
 {
@@ -65,7 +65,7 @@ fn mark(values: &[u64], first: u64, low: u64, high: u64, rows: &mut [u64]) -> us
     requires room { length values.now ≤ length rows.old }
     requires fits { first + length values.now < 2 ^ 64 }
     ensures count { result ≤ length values.now }
-    ensures rows { take result rows.new ≡ positions_from first low high values.now }
+    ensures rows { take result rows.new ≡ map (λ place. first + place) (positions_in low high values.now) }
 {
     let mut kept = 0;
     let mut row = first;

@@ -1,21 +1,26 @@
-use Rattle.std.proofs.Common.{◌≡◌, ◌+◌, ◌++◌, List, ℕ, drop, take, arith, ap, ◌∙◌}
-use Rattle.definitions_operators.specs.Operators.{positions_from}
-use Rattle.scan_ops.proofs.PositionsLemmas.{positions_from-block}
+use Rattle.std.proofs.Common.{◌≡◌, ◌+◌, ◌++◌, List, ℕ, drop, map, take, append_assoc, arith, ap, sym, ◌∙◌}
+use Rattle.definitions_operators.specs.Operators.{is_within, positions_in}
+use Rattle.definitions_operators.proofs.PositionLaws.{passing_places-block}
 use Rattle.scan_ops.proofs.selection.append_positions.Goals as goal
 
 pub loop-first-preserved : goal.loop-first-preserved
 loop-first-preserved c =
+    let low = c.args.low in
+    let high = c.args.high in
+    let values = c.args.values.now in
+    let initial = c.args.positions.now.items in
     let before = c.loop-first.positions.items in
     let first = c.loop-first.first in
     let n = c.min.result in
-    let rest = drop first c.args.values.now in
-    let later = positions_from (first + n) c.args.low c.args.high (drop (first + n) c.args.values.now) in
-    let marked : take c.mark-kept.result c.mark-kept.new.rows ≡ positions_from first c.args.low c.args.high (take n rest) =
-    c.mark-kept.ensures.rows ∙ ap (λ (k : ℕ). positions_from first c.args.low c.args.high (take k rest)) (omega arith) in
+    let block : List ℕ = map (λ place. first + place) (positions_in low high (take n (drop first values))) in
+    let marked : take c.mark-kept.result c.mark-kept.new.rows ≡ block =
+    c.mark-kept.ensures.rows ∙ ap (λ (k : ℕ). map (λ place. first + place) (positions_in low high (take k (drop first values)))) (omega arith) in
     record {
       within = omega arith;
       positions =
-          ap (λ (items : List ℕ). items ++ later) (c.in_ok-extend_from_slice.ensures.items ∙ ap (λ (rows : List ℕ). before ++ rows) marked)
-          ∙ positions_from-block before first c.args.low c.args.high n c.args.values.now (omega arith)
-          ∙ c.loop-first.invariant.positions;
+          c.in_ok-extend_from_slice.ensures.items
+          ∙ ap (λ (rows : List ℕ). before ++ rows) marked
+          ∙ ap (λ (items : List ℕ). items ++ block) c.loop-first.invariant.positions
+          ∙ append_assoc initial (positions_in low high (take first values)) block
+          ∙ ap (λ (rows : List ℕ). initial ++ rows) (sym (passing_places-block (is_within low high) first n values (omega arith)));
     }
