@@ -1,6 +1,6 @@
 -- The first values of a list that is appended to another.
-use Rattle.std.proofs.Common.{◌≡◌, ℕ, ◌+◌, ◌<◌, ◌≤◌, min, Bool, true, List, [], ◌∷◌, ◌++◌, length, take, drop, get_or, sym, ap, ◌∙◌, subst, append_assoc, refl, ap₂, arith, length-append}
-use Rattle.std.proofs.lemmas.List.{take_more, take-append-le, take-append-drop, take-take, drop-take, take_at, length-take}
+use Rattle.std.proofs.Common.{◌≡◌, ℕ, ◌+◌, ◌<◌, Bool, true, List, [], ◌∷◌, ◌++◌, length, take, drop, get_or, sym, ap, ◌∙◌, append_assoc, refl, ap₂, arith}
+use Rattle.std.proofs.lemmas.List.{take_more, take-append-drop, take-take, drop-take, take_at}
 use Rattle.block_core.specs.Emitters.{HoldsOfPrefixes}
 
 -- the first values and the next one

@@ -1,6 +1,6 @@
 //! A block of at most 1,024 values.
 
-ghost use Rattle.std.specs.Prelude.{◌≡◌, ◌+◌, ◌<◌, ◌≤◌, ◌++◌, ◌∷◌, [], List, ℕ, length};
+ghost use Rattle.std.specs.Prelude.{◌≡◌, ◌+◌, ◌-◌, ◌<◌, ◌≤◌, ◌++◌, ◌∷◌, [], List, ℕ, length, replicate};
 ghost use Rattle.std.specs.List.{refill};
 ghost use Rattle.std.specs.Borrow.{Lends, sem, u64 as word, Array};
 ghost use Rattle.block_core.specs.contracts.blocks.Block.{the_row};
@@ -12,8 +12,16 @@ use std::marker::Model;
 /// How many values a block has.
 pub const BLOCK_LEN: usize = 1024;
 
-/// How many values a column has at most, 2^28.
+/// How many strands a packed block has. Neighbouring values stand in different ones.
+pub const STRANDS: usize = 16;
+
+/// How many rows a packed block has: 16 values, one in each strand.
+pub const ROWS: usize = 64;
+
+/// How many values a column has at most.
 pub const MAX_ROWS: u64 = 268_435_456;
+
+const _: () = prove!(MAX_ROWS == 1 << 28);
 
 /// At most 1,024 values, kept in place: 8 KiB and a length. A full block has 1,024. Lend it by reference; moving one copies
 /// all of it.
@@ -40,6 +48,16 @@ impl Block {
         }
     }
 
+    /// A block of these values, which must fit.
+    pub fn of(values: &[u64]) -> Block
+        requires { length values.now ≤ block_values }
+        ensures { result ≡ values.now }
+    {
+        let mut block = Block::new();
+        block.append(values);
+        block
+    }
+
     pub fn clear(&mut self)
         ensures { self.new ≡ [] }
     {
@@ -62,9 +80,10 @@ impl Block {
         let _fits = self.values.try_extend_from_slice(values);
     }
 
-    /// Makes the block full, whatever it holds, so that all of it can be written in place. On a full block it does nothing.
+    /// Makes the block full, so that all of it can be written in place. What it holds stays, and zeros follow.
     pub fn fill(&mut self)
-        ensures { length self.new ≡ block_values }
+        ensures length { length self.new ≡ block_values }
+        ensures values { self.new ≡ self.old ++ replicate (block_values - length self.old) 0 }
     {
         for _ in self.values.len()..BLOCK_LEN {
             self.values.push(0);

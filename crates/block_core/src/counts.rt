@@ -1,7 +1,7 @@
 //! A count of steps, for contracts.
 
 ghost use Rattle.std.specs.Prelude.{◌≡◌, ◌≤◌};
-ghost use Rattle.block_core.specs.Counts.{next_count};
+ghost use Rattle.block_core.specs.Counts.{later_count, next_count};
 
 use std::alloc::Global;
 use std::marker::{Model, PhantomData};
@@ -44,5 +44,13 @@ impl<G> Steps<G> {
         ensures later { self.old ≤ self.new }
     {
         self.count = self.count.saturating_add(1);
+    }
+
+    /// Counts so many steps.
+    pub fn tick_by(&mut self, steps: u64)
+        ensures next { self.new ≡ later_count self.old steps }
+        ensures later { self.old ≤ self.new }
+    {
+        self.count = self.count.saturating_add(steps);
     }
 }

@@ -25,6 +25,18 @@ pub enum Format {
 }
 
 impl Format {
+    /// The formats, each at the place that is its tag.
+    pub const ALL: [Format; 8] = [
+        Format::Plain,
+        Format::Static,
+        Format::Dynamic,
+        Format::Runs,
+        Format::Delta1Dynamic,
+        Format::Delta16Dynamic,
+        Format::ReferenceDynamic,
+        Format::Delta1Runs,
+    ];
+
     /// The tag in a column file's head.
     pub fn tag(self) -> u8
         ensures { result ≡ tag_of self }
@@ -45,17 +57,7 @@ impl Format {
     pub fn from_tag(tag: u8) -> Option<Format>
         ensures { MatchOption result ((format : Format) → tag_of format ≢ tag) (λ format. tag_of format ≡ tag) }
     {
-        match tag {
-            0 => Some(Format::Plain),
-            1 => Some(Format::Static),
-            2 => Some(Format::Dynamic),
-            3 => Some(Format::Runs),
-            4 => Some(Format::Delta1Dynamic),
-            5 => Some(Format::Delta16Dynamic),
-            6 => Some(Format::ReferenceDynamic),
-            7 => Some(Format::Delta1Runs),
-            _ => None,
-        }
+        Format::ALL.get(tag as usize).copied()
     }
 
     /// The format that has the name, where one has it.

@@ -9,13 +9,15 @@
 mod blocks;
 mod counts;
 mod emitters;
+mod facts;
 mod formats;
 mod packings;
 mod sources;
 
-pub use blocks::{BLOCK_LEN, Block, MAX_ROWS};
+pub use blocks::{BLOCK_LEN, Block, MAX_ROWS, ROWS, STRANDS};
 pub use counts::{Own, Steps};
 pub use emitters::Emit;
+pub use facts::{bytes_fit, words_fit};
 pub use formats::{Format, FormatChoice};
 pub use packings::{BlockRef, Packing, Transform};
 pub use sources::{BlockSource, PlaceSource};

@@ -30,6 +30,11 @@ pub trait Packing {
         requires { (bytes : List ℕ) × (length bytes < 2 ^ 64) × IsBlock encodes block_head param head bytes }
         ensures { (bytes : List ℕ) → IsBlock encodes block_head param head bytes → result ≡ length bytes };
 
+    /// The head of the block that the bytes encode, read from its first bytes. Nothing is checked again.
+    fn head_in(param: Self::Param, bytes: &[u8]) -> Self::Head
+        requires { (values : List ℕ) × encodes param values bytes.now }
+        ensures { (values : List ℕ) → encodes param values bytes.now → result ≡ block_head param values };
+
     /// Writes the block's encoding.
     fn encode(param: Self::Param, head: Self::Head, full: &Block, into: &mut [u8])
         requires encoded { (bytes : List ℕ) × encodes param full.now bytes × (length into.old ≡ length bytes) }

@@ -22,7 +22,8 @@ pub trait BlockSource {
         requires { number * block_values < length (list self.old) }
         ensures values { into.new ≡ block_at (list self.old) number }
         ensures list { list self.new ≡ list self.old }
-        ensures steps { steps.new ≡ next_count steps.old };
+        ensures steps { steps.new ≡ next_count steps.old }
+        ensures later { steps.old ≤ steps.new };
 }
 
 /// A list of which single values are looked up.

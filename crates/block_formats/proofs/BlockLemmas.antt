@@ -9,7 +9,7 @@ use Rattle.definitions_blocks.specs.Packed.{IsPacked, IsWidth}
 use Rattle.definitions_blocks.specs.Encodings.{width_of, IsDynamicBlock}
 use Rattle.definitions_blocks.proofs.PackedLaws.{packed_one_block, packed_values, IsPacked-values}
 use Rattle.definitions_blocks.proofs.EncodingLaws.{words_from_below, words_of-from_words, width_of-is, IsDynamicBlock-packed}
-use Rattle.strand_pack.specs.Words.{word_of}
+use Rattle.definitions_blocks.specs.Words.{word_of}
 use Rattle.strand_pack.proofs.WordBits.{word_of-lt}
 
 -- where the words of bytes are the values, the bytes encode them

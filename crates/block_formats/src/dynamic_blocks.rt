@@ -1,10 +1,11 @@
 //! The format `dynamic`: packed at the block's own width, which stands before it.
 
+ghost use Rattle.std.specs.Prelude.{◌≡◌, ◌<◌, length, slice_index};
 ghost use Rattle.definitions_blocks.specs.Encodings.{IsDynamicBlock, width_of};
 ghost use Rattle.definitions_blocks.proofs.EncodingLaws.{IsDynamicBlock-octet, IsDynamicBlock-one, IsDynamicBlock-front, IsDynamicBlock-sized};
 
-use crate::widths::{MAX_WIDTH, is_least, packed_len};
 use block_core::{Block, Packing};
+use strand_pack::{MAX_WIDTH, is_least_width, packed_len};
 
 /// A byte for the least width that holds the values, and the block packed at it: `1 + 128 * width` bytes. The head is the
 /// width byte. A byte above the least width is no block.
@@ -27,6 +28,10 @@ impl<const L: usize> Packing for Dynamic<L> {
         1 + packed_len(width)
     }
 
+    fn head_in(_param: (), bytes: &[u8]) -> u8 {
+        width_in(bytes)
+    }
+
     fn encode(_param: (), width: u8, full: &Block, into: &mut [u8]) {
         into[0] = width;
         strand_pack::pack::<L>(full, width, &mut into[1..]);
@@ -36,12 +41,12 @@ impl<const L: usize> Packing for Dynamic<L> {
         if bytes.is_empty() {
             return None;
         }
-        let width = bytes[0];
+        let width = width_in(bytes);
         if width > MAX_WIDTH || bytes.len() - 1 < packed_len(width) {
             return None;
         }
         let end = 1 + packed_len(width);
-        if !is_least(&bytes[1..end], width) {
+        if !is_least_width(&bytes[1..end], width) {
             return None;
         }
         Some((width, end))
@@ -58,4 +63,12 @@ impl<const L: usize> Packing for Dynamic<L> {
       front = λ _ values others a b x y p q e. IsDynamicBlock-front values others a b x y p q e;
       sized = λ _ values others a b p q same. IsDynamicBlock-sized values others a b p q same;
     } };
+}
+
+/// The width byte.
+fn width_in(bytes: &[u8]) -> u8
+    requires { 0 < length bytes.now }
+    ensures { result ≡ slice_index bytes.now 0 }
+{
+    bytes[0]
 }

@@ -7,7 +7,6 @@
 mod dynamic_blocks;
 mod plain_blocks;
 mod static_blocks;
-mod widths;
 mod words;
 
 pub use dynamic_blocks::Dynamic;

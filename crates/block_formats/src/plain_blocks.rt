@@ -27,6 +27,8 @@ impl Packing for Words {
         BLOCK_BYTES
     }
 
+    fn head_in(_param: (), _bytes: &[u8]) {}
+
     fn encode(_param: (), _head: (), full: &Block, into: &mut [u8]) {
         write_words(full.as_slice(), into);
     }

@@ -4,8 +4,8 @@ ghost use Rattle.definitions_blocks.specs.Packed.{IsPacked};
 ghost use Rattle.definitions_blocks.proofs.PackedLaws.{packed_one_encoding, packed_prefix};
 ghost use Rattle.definitions_blocks.proofs.EncodingLaws.{IsPacked-full, IsPacked-sized};
 
-use crate::widths::{MAX_WIDTH, packed_len};
 use block_core::{Block, Packing};
+use strand_pack::{MAX_WIDTH, packed_len};
 
 /// A block packed at the column's width, in `128 * width` bytes. The param is the width; a block with a value of 2^width or
 /// more has no encoding under it, and no block has one under a width above 64.
@@ -25,6 +25,8 @@ impl<const L: usize> Packing for Static<L> {
     fn byte_len(width: u8, _head: ()) -> usize {
         packed_len(width)
     }
+
+    fn head_in(_width: u8, _bytes: &[u8]) {}
 
     fn encode(width: u8, _head: (), full: &Block, into: &mut [u8]) {
         strand_pack::pack::<L>(full, width, into);

@@ -5,8 +5,7 @@ ghost use Rattle.definitions_blocks.specs.Words.{word_bytes};
 ghost use Rattle.definitions_blocks.specs.Encodings.{IsCascade};
 ghost use Rattle.cascade_formats.specs.CascadeLaws.{IsPacking-cascade};
 
-use crate::differences::words_fit;
-use block_core::{Block, Packing, Transform};
+use block_core::{Block, Packing, Transform, words_fit};
 use std::marker::PhantomData;
 
 /// A block as the base of `T` in eight bytes, the little end first, and then its differences as `P` encodes them. The param is
@@ -34,6 +33,10 @@ impl<T: Transform<Base = u64>, P: Packing> Packing for Cascade<T, P> {
 
     fn byte_len(param: P::Param, head: (u64, P::Head)) -> usize {
         8 + P::byte_len(param, head.1)
+    }
+
+    fn head_in(param: P::Param, bytes: &[u8]) -> (u64, P::Head) {
+        (word_of(bytes), P::head_in(param, rest_of(bytes)))
     }
 
     fn encode(param: P::Param, head: (u64, P::Head), full: &Block, into: &mut [u8]) {

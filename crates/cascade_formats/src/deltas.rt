@@ -3,8 +3,8 @@
 ghost use Rattle.definitions_blocks.specs.Differences.{first_of, delta1_of, delta16_of};
 ghost use Rattle.definitions_blocks.proofs.DifferenceLaws.{delta1_of-full, delta1_of-join, delta16_of-full, delta16_of-join};
 
-use crate::differences::{begin_at_zero, subtract_earlier, sum_strands, sum_up, words_fit};
-use block_core::{Block, Transform};
+use crate::differences::{begin_at_zero, subtract_earlier, sum_strands, sum_up};
+use block_core::{Block, Transform, words_fit};
 
 /// Each value's difference to the one before it, mod 2^64. The base is the first value, whose difference is 0.
 pub struct Delta1<const L: usize>;

@@ -5,11 +5,8 @@ ghost use Rattle.definitions_blocks.specs.Blocks.{block_values, IsFull};
 ghost use Rattle.definitions_blocks.specs.Differences.{first_of};
 ghost use Rattle.definitions_blocks.proofs.DifferenceLaws.{gapped, sums_of};
 
-use block_core::BLOCK_LEN;
+use block_core::{BLOCK_LEN, STRANDS, words_fit};
 use lane_core::Lanes;
-
-/// How many strands a packed block has, which is the gap of `Delta16`.
-pub const STRANDS: usize = 16;
 
 /// Leaves in `into` each value's difference to the one `GAP` places earlier, and of the first ones to the first.
 #[inline(always)]
@@ -96,9 +93,3 @@ pub fn begin_at_zero(differences: &[u64]) -> bool
 {
     differences.len() == BLOCK_LEN && differences[0] == 0
 }
-
-/// That a word is below 2^64 follows from the type of a slice. A call tells it to the proof, and costs nothing.
-#[inline(always)]
-pub fn words_fit(words: &[u64])
-    ensures { (place : ℕ) → slice_index words.now place < 2 ^ 64 }
-{}

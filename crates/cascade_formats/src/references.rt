@@ -5,8 +5,7 @@ ghost use Rattle.definitions_blocks.specs.Blocks.{block_values};
 ghost use Rattle.definitions_blocks.specs.Differences.{least_of, reference_of};
 ghost use Rattle.definitions_blocks.proofs.DifferenceLaws.{raised, reference_of-full, reference_of-join};
 
-use crate::differences::words_fit;
-use block_core::{BLOCK_LEN, Block, Transform};
+use block_core::{BLOCK_LEN, Block, Transform, words_fit};
 
 /// Each value's difference to the block's least value, which is the base.
 pub struct Reference<const L: usize>;

@@ -1,6 +1,6 @@
 -- 64-bit numbers, and their bytes in files.
-use Rattle.std.specs.Prelude.{ℕ, ◌^◌, ◌<◌, List, flat_map}
-use Rattle.std.specs.Int.{to_le_bytes, w64}
+use Rattle.std.specs.Prelude.{ℕ, ◌*◌, ◌^◌, ◌<◌, List, take, drop, flat_map}
+use Rattle.std.specs.Int.{from_le_bytes, to_le_bytes, w64}
 
 -- a number below 2^64
 abbrev pub IsWord : ℕ → Type 0
@@ -13,3 +13,7 @@ word_bytes value = to_le_bytes w64 value
 -- numbers in a file, one after the other
 abbrev pub words_of : List ℕ → List ℕ
 words_of values = flat_map word_bytes values
+
+-- word j of bytes: eight of them, the little end first
+unfoldable pub word_of : List ℕ → ℕ → ℕ
+word_of bytes j = from_le_bytes w64 (take 8 (drop (8 * j) bytes))

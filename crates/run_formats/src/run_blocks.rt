@@ -3,7 +3,7 @@
 ghost use Rattle.definitions_blocks.specs.Runs.{IsRunsBlock, run_count};
 ghost use Rattle.definitions_blocks.proofs.RunLaws.{IsRunsBlock-octets, IsRunsBlock-one, IsRunsBlock-front, IsRunsBlock-sized};
 
-use crate::cells::{HEAD_LEN, block_size, cells_of};
+use crate::cells::{HEAD_LEN, block_size, cells_of, run_count_in};
 use crate::reading::{found_count, write_values};
 use crate::writing::{count_runs, put_count, put_runs};
 use block_core::{Block, Packing};
@@ -27,6 +27,10 @@ impl Packing for Runs {
 
     fn byte_len(_param: (), runs: u16) -> usize {
         block_size(runs)
+    }
+
+    fn head_in(_param: (), bytes: &[u8]) -> u16 {
+        run_count_in(bytes)
     }
 
     fn encode(_param: (), runs: u16, full: &Block, into: &mut [u8]) {

@@ -5,3 +5,4 @@ pub mod LaneLaws
 pub mod StrandTotals
 pub mod Strands
 pub mod WidthLaws
+pub mod HighestBits

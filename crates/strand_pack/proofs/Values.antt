@@ -5,7 +5,8 @@ use Rattle.std.proofs.Math.Nat.{mul-le-mul_right}
 use Rattle.std.proofs.lemmas.Bool.{cases_lt}
 use Rattle.std.proofs.lemmas.Nat.Bits.{bit_at_cat_low, bit_at_cat_high, same_from_bits_below}
 use Rattle.definitions_blocks.specs.Packed.{word_bit, strand_bit, IsPacked}
-use Rattle.strand_pack.specs.Words.{word_of, field, value_in}
+use Rattle.definitions_blocks.specs.Words.{word_of}
+use Rattle.strand_pack.specs.Words.{field, value_in}
 use Rattle.strand_pack.proofs.WordBits.{word_of-lt, word_of-bit}
 use Rattle.strand_pack.proofs.Fields.{field_lt, field_bit, field_none, field_any, field_wide, field_from_one, field_from_two}
 

@@ -8,7 +8,7 @@ use Rattle.std.proofs.lemmas.Nat.{from_le_bytes-to_le_bytes_8}
 use Rattle.std.proofs.lemmas.Slice.{between-put_mid}
 use Rattle.definitions_blocks.specs.Packed.{word_bit}
 use Rattle.definitions_blocks.proofs.BitLaws.{total, total_lt, total_bit, total_same}
-use Rattle.strand_pack.specs.Words.{word_of}
+use Rattle.definitions_blocks.specs.Words.{word_of}
 
 -- byte k of word j
 unfoldable pub byte_of : List ℕ → ℕ → ℕ → ℕ

@@ -1,11 +1,8 @@
 -- Words of a packed block, as the code reads and writes them.
-use Rattle.std.specs.Prelude.{◌≡◌, ℕ, ◌+◌, ◌*◌, ◌/◌, ◌%◌, ◌^◌, ◌<◌, ◌≤◌, List, take, drop, slice_index}
-use Rattle.std.specs.Int.{bit_at, from_le_bytes, w64}
+use Rattle.std.specs.Prelude.{◌≡◌, ℕ, ◌+◌, ◌*◌, ◌/◌, ◌%◌, ◌^◌, ◌<◌, ◌≤◌, List, slice_index}
+use Rattle.std.specs.Int.{bit_at}
+use Rattle.definitions_blocks.specs.Words.{word_of}
 use Rattle.definitions_blocks.specs.Packed.{strand_bit}
-
--- word j: eight bytes, the little end first
-unfoldable pub word_of : List ℕ → ℕ → ℕ
-word_of bytes j = from_le_bytes w64 (take 8 (drop (8 * j) bytes))
 
 -- as many bits as the width says of two words in a row, from the offset on
 unfoldable pub field : ℕ → ℕ → ℕ → ℕ → ℕ

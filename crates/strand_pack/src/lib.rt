@@ -14,4 +14,5 @@ mod words;
 pub use packing::pack;
 pub use picking::pick;
 pub use unpacking::unpack;
-pub use widths::{width_of, width_of_values};
+pub use widths::{MAX_WIDTH, is_least_width, packed_len, width_of, width_of_values};
+pub use words::put_word;

@@ -8,8 +8,8 @@ ghost use Rattle.definitions_blocks.specs.Blocks.{block_values};
 ghost use Rattle.definitions_blocks.specs.Packed.{AreBelow, IsPacked};
 ghost use Rattle.strand_pack.specs.Words.{AreEncoded};
 
-use crate::words::{ROWS, STRANDS, bytes_fit, put_words};
-use block_core::Block;
+use crate::words::put_words;
+use block_core::{Block, ROWS, STRANDS, bytes_fit};
 use lane_core::Lanes;
 
 /// Writes the block at the width, in `128 * width` bytes. At a lane width `L` other than 1, 2, 4, 8 and 16 it works as at 1,

@@ -4,7 +4,8 @@ ghost use Rattle.std.specs.Prelude.{◌≡◌, ℕ, ◌*◌, ◌<◌, ◌≤◌,
 ghost use Rattle.definitions_blocks.specs.Blocks.{block_values};
 ghost use Rattle.definitions_blocks.specs.Packed.{IsPacked};
 
-use crate::words::{STRANDS, WORD_BITS, word_at};
+use crate::words::{WORD_BITS, word_at};
+use block_core::STRANDS;
 
 /// The value at a place of the block that these `128 * width` bytes are at the width. It reads two words at most, and
 /// unpacks nothing.

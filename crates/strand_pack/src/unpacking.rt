@@ -6,10 +6,11 @@
 ghost use Rattle.std.specs.Prelude.{◌≡◌, ℕ, ◌+◌, ◌-◌, ◌*◌, ◌/◌, ◌%◌, ◌^◌, ◌<◌, ◌≤◌, length, slice_index, bit_and, bit_or};
 ghost use Rattle.definitions_blocks.specs.Blocks.{block_values};
 ghost use Rattle.definitions_blocks.specs.Packed.{IsPacked};
-ghost use Rattle.strand_pack.specs.Words.{word_of, field, value_in};
+ghost use Rattle.definitions_blocks.specs.Words.{word_of};
+ghost use Rattle.strand_pack.specs.Words.{field, value_in};
 
-use crate::words::{ROWS, STRANDS, WORD_BITS, words_at};
-use block_core::Block;
+use crate::words::{WORD_BITS, words_at};
+use block_core::{Block, ROWS, STRANDS};
 use lane_core::Lanes;
 
 /// Leaves in `into` the block that these `128 * width` bytes are at the width. Any bytes of this length are one. At a lane

@@ -1,22 +1,16 @@
 //! The 64-bit words of a packed block. A word of one strand stands beside those of the 15 others, so neighbouring strands
 //! are read and written by vectors.
 
-ghost use Rattle.std.specs.Prelude.{◌≡◌, ℕ, ◌+◌, ◌*◌, ◌^◌, ◌<◌, ◌≤◌, length, slice_index};
+ghost use Rattle.std.specs.Prelude.{◌≡◌, ℕ, ◌+◌, ◌*◌, ◌<◌, ◌≤◌, length, slice_index};
 ghost use Rattle.std.specs.Int.{to_le_bytes, w64};
-ghost use Rattle.strand_pack.specs.Words.{word_of};
+ghost use Rattle.definitions_blocks.specs.Words.{word_of};
 
 use lane_core::Lanes;
-
-/// How many words stand side by side, one for each strand.
-pub const STRANDS: usize = 16;
-
-/// How many rows a block has: 16 values, one in each strand.
-pub const ROWS: usize = 64;
 
 /// How many bits a word has.
 pub const WORD_BITS: usize = 64;
 
-/// The word at a place. There is no test of the bounds, since they are proved.
+/// The word at a place.
 #[inline(always)]
 pub fn word_at(bytes: &[u8], place: usize) -> u64
     requires { 8 * place + 8 ≤ length bytes.now }
@@ -78,9 +72,3 @@ pub fn put_words<const L: usize>(words: Lanes<L>, into: &mut [u8], place: usize)
         put_word(copied[lane], into, place + lane);
     }
 }
-
-/// That a byte is below 2^8 follows from the type of a slice. A call tells it to the proof, and costs nothing.
-#[inline(always)]
-pub fn bytes_fit(bytes: &[u8])
-    ensures { (k : ℕ) → slice_index bytes.now k < 2 ^ 8 }
-{}

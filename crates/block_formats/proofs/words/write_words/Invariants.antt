@@ -1,6 +1,6 @@
 -- The values before the place are written.
 use Rattle.std.proofs.Common.{◌≡◌, ℕ, ◌<◌, get_or}
-use Rattle.strand_pack.specs.Words.{word_of}
+use Rattle.definitions_blocks.specs.Words.{word_of}
 use Rattle.block_formats.proofs.words.write_words.Given as goal
 
 abbrev pub invariant-loop-place : goal.invariant-loop-place

@@ -1,6 +1,6 @@
 use Rattle.std.proofs.Common.{◌≡◌, ℕ, ◌+◌, ◌-◌, ◌*◌, ◌/◌, ◌^◌, ◌≤◌, bit_and, ap, ◌∙◌, arith}
 use Rattle.std.proofs.Math.Nat.{mul-le-mul_right}
-use Rattle.strand_pack.specs.Words.{word_of}
+use Rattle.definitions_blocks.specs.Words.{word_of}
 use Rattle.strand_pack.proofs.LaneLaws.{more_done}
 use Rattle.strand_pack.proofs.unpacking.row_from_one.Goals as goal
 

@@ -1,6 +1,6 @@
 -- The strands before the group are read.
 use Rattle.std.proofs.Common.{◌≡◌, ℕ, ◌+◌, ◌-◌, ◌*◌, ◌/◌, ◌%◌, ◌^◌, ◌<◌, get_or, bit_and, bit_or}
-use Rattle.strand_pack.specs.Words.{word_of}
+use Rattle.definitions_blocks.specs.Words.{word_of}
 use Rattle.strand_pack.proofs.unpacking.row_from_two.Given as goal
 
 abbrev pub invariant-loop-group : goal.invariant-loop-group

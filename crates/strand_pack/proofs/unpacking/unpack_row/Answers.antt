@@ -1,6 +1,7 @@
 use Rattle.std.proofs.Common.{◌+◌, ◌-◌, ◌*◌, ◌/◌, ◌%◌, ◌^◌, length, get_or, bit_and, bit_or, refl, sym, ap, ◌∙◌, arith}
 use Rattle.std.proofs.lemmas.List.{get_or-replicate}
-use Rattle.strand_pack.specs.Words.{word_of, value_in}
+use Rattle.definitions_blocks.specs.Words.{word_of}
+use Rattle.strand_pack.specs.Words.{value_in}
 use Rattle.strand_pack.proofs.Fields.{mask_of}
 use Rattle.strand_pack.proofs.Values.{value_in-none, value_from_one, value_from_two}
 use Rattle.strand_pack.proofs.unpacking.unpack_row.Goals as goal

@@ -1,7 +1,5 @@
-use Rattle.std.proofs.Common.{◌≡◌, ◌-◌, get_or, arith, below_more, subst}
-use Rattle.std.specs.Int.{leading_zeros, w64}
+use Rattle.std.proofs.Common.{get_or, arith, below_more}
 use Rattle.std.proofs.lemmas.Nat.{le_or_l, le_or_r, or_lt}
-use Rattle.definitions_blocks.specs.Packed.{IsWidth}
 use Rattle.strand_pack.proofs.WidthLaws.{IsWidth-from_bits}
 use Rattle.strand_pack.proofs.widths.width_of_values.Goals as goal
 

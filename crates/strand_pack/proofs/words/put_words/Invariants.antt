@@ -1,6 +1,6 @@
 -- The words before the lane are written, and nothing beside them.
 use Rattle.std.proofs.Common.{◌≡◌, ℕ, ◌+◌, ◌*◌, ◌<◌, ◌≤◌, get_or}
-use Rattle.strand_pack.specs.Words.{word_of}
+use Rattle.definitions_blocks.specs.Words.{word_of}
 use Rattle.strand_pack.proofs.words.put_words.Given as goal
 
 abbrev pub invariant-loop-lane : goal.invariant-loop-lane

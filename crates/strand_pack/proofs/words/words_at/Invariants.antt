@@ -1,6 +1,6 @@
 -- The words before the lane are read.
 use Rattle.std.proofs.Common.{◌≡◌, ℕ, ◌+◌, ◌<◌, length, get_or}
-use Rattle.strand_pack.specs.Words.{word_of}
+use Rattle.definitions_blocks.specs.Words.{word_of}
 use Rattle.strand_pack.proofs.words.words_at.Given as goal
 
 abbrev pub invariant-loop-lane : goal.invariant-loop-lane

@@ -13,7 +13,7 @@ pub returns-clause-full : goal.returns-clause-full
 returns-clause-full c =
     let values = c.args.values.now in
     let same : c.copy_from_slice.new.self ≡ values = c.copy_from_slice.ensures.after in
-    let whole : length c.copy_from_slice.new.self ≡ length c.fill.new.self = ap length same ∙ c.requires ∙ sym c.fill.ensures in
+    let whole : length c.copy_from_slice.new.self ≡ length c.fill.new.self = ap length same ∙ c.requires ∙ sym c.fill.ensures.length in
     let is : refill (length c.fill.new.self) c.fill.new.self c.copy_from_slice.new.self ≡ values =
     take_at c.copy_from_slice.new.self (drop (length c.copy_from_slice.new.self) c.fill.new.self) (length c.fill.new.self) whole ∙ same in
     subst IsFull (sym is) (record { whole = c.requires; words = words values (λ k. (c.type_inv.values k).fits) })

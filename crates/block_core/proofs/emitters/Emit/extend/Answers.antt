@@ -1,4 +1,4 @@
-use Rattle.std.proofs.Common.{◌++◌, length, take, arith, length-append, sym}
+use Rattle.std.proofs.Common.{◌++◌, take, arith, length-append}
 use Rattle.std.proofs.lemmas.List.{length-take}
 use Rattle.std.proofs.lemmas.Bool.{false≢true}
 use Rattle.block_core.proofs.PrefixLemmas.{next_holds}
@@ -8,8 +8,7 @@ pub push-requires : goal.push-requires
 push-requires g c =
     let values = c.args.values.now in
     let n = c.loop-value.value-index in
-    let list = c.requires.0 in
-    (
+    let list = c.requires.0 in (
       list ++ take n values,
       c.loop-value.invariant.taken list c.requires.1,
       omega (arith, length-append list (take n values), length-take n values, c.requires.2, c.loop-value-test.true),

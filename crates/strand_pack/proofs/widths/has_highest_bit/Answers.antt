@@ -1,8 +1,8 @@
 use Rattle.std.proofs.Common.{◌≡◌, ◌+◌, ◌-◌, ◌*◌, ◌%◌, ◌≤◌, refl, arith, below_more}
 use Rattle.std.specs.Int.{bit_at}
 use Rattle.std.proofs.Math.Nat.{mul-le-mul_right}
-use Rattle.block_formats.proofs.HighestBits.{below_by_highest, highest_by_below}
-use Rattle.block_formats.proofs.widths.has_highest_bit.Goals as goal
+use Rattle.strand_pack.proofs.HighestBits.{below_by_highest, highest_by_below}
+use Rattle.strand_pack.proofs.widths.has_highest_bit.Goals as goal
 
 pub bits_of_line-requires : goal.bits_of_line-requires
 bits_of_line-requires c =
