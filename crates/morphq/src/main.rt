@@ -2,10 +2,8 @@
 //! output, handed to the top call, whose status it ends with.
 #![tactic(auto)]
 
-mod edge;
-
-use edge::{FolderStore, StdSink, StdSource};
 use engine_tool::run;
+use host_edge::{FolderStore, StdSink, StdSource};
 use std::alloc::AllocError;
 use std::process::ExitCode;
 use std::rt::Env;
