@@ -102,7 +102,9 @@ impl Emit for Builder {
     ghost use Rattle.definitions_columns.specs.ColumnFiles.{fits_columns};
     ghost use Rattle.block_core.specs.Formats.{format_of};
     ghost use Rattle.column_core.specs.Columns.{encoding_of};
-    ghost use Rattle.column_core.specs.Scopes.{Frame, frame, has_room, has_room-front, HoldsOfPrefixes-fits_columns};
+    ghost use Rattle.column_core.specs.Scopes.{Frame, frame, has_room};
+    ghost use Rattle.definitions_columns.proofs.WidthLaws.{fits_columns-front};
+    ghost use Rattle.definitions_columns.proofs.SizeLaws.{is_within_room-front};
 
     ghost Frame = { Frame };
 
@@ -142,9 +144,9 @@ impl Emit for Builder {
         Ok(())
     }
 
-    ghost scope_law = { λ of values rest. HoldsOfPrefixes-fits_columns (format_of of.format) of.width values rest };
+    ghost scope_law = { λ of values rest. fits_columns-front (format_of of.format) of.width values rest };
 
-    ghost room_law = { has_room-front };
+    ghost room_law = { λ of values rest. is_within_room-front (format_of of.format) of.width of.reserve.bytes of.reserve.count values rest };
 }
 
 /// Encodes a full block, and empties it. An `Err` changes nothing.

@@ -3,7 +3,7 @@
 ghost use Rattle.std.specs.Prelude.{◌≡◌, ◌+◌, ◌*◌, ◌/◌, ◌%◌, ◌<◌, ◌≤◌, ℕ, List as Items, length, slice_index, take, drop, true, IfSome};
 ghost use Rattle.std.specs.Int.{from_le_bytes, w64};
 ghost use Rattle.definitions_blocks.specs.Blocks.{block_values, block_at};
-ghost use Rattle.definitions_blocks.specs.Columns.{max_rows};
+ghost use Rattle.definitions_blocks.specs.Columns.{IsColumn, max_rows};
 ghost use Rattle.definitions_blocks.specs.Formats.{plain, BlockOf, IsColumnWidth};
 ghost use Rattle.definitions_columns.specs.ColumnFiles.{IsColumnFile, IsIndexed, fits_columns, static_width_of};
 ghost use Rattle.block_core.specs.Formats.{format_of, tag_of};
@@ -11,7 +11,7 @@ ghost use Rattle.column_core.specs.Columns.{shape};
 
 use crate::blocks::{decode_block, pick_value};
 use crate::encodings::Encoded;
-use crate::heads::HEAD_LEN;
+use crate::heads::{HEAD_LEN, head_of};
 use crate::words::{push_words, word_at};
 use block_core::{BLOCK_LEN, Block, Format};
 use std::marker::Model;
@@ -44,11 +44,9 @@ impl Column {
             × IsIndexed (format_of format) (static_width_of (format_of format) values) values bytes starts }
         ensures { (format : Format) (values : Items ℕ) → IsColumnFile (format_of format) values bytes → result ≡ shape format values }
     {
-        let format = format_in(bytes.as_slice());
-        let width = width_in(bytes.as_slice());
-        let count = count_in(bytes.as_slice());
+        let head = head_of(bytes.as_slice());
         Column {
-            encoded: Encoded::adopt(format, width, count, bytes.into_vec(), starts.into_vec()),
+            encoded: Encoded::adopt(head, bytes.into_vec(), starts.into_vec()),
         }
     }
 
@@ -70,6 +68,7 @@ impl Column {
     pub fn count(&self) -> u64
         ensures count { result ≡ length self.now.values }
         ensures few { length self.now.values ≤ max_rows }
+        ensures column { IsColumn self.now.values }
     {
         self.encoded.count()
     }
@@ -86,7 +85,8 @@ impl Column {
 
     /// The column's file.
     pub fn encoded(&self) -> &[u8]
-        ensures { IsColumnFile (format_of self.now.format) self.now.values result.now }
+        ensures file { IsColumnFile (format_of self.now.format) self.now.values result.now }
+        ensures one { (bytes : Items ℕ) → IsColumnFile (format_of self.now.format) self.now.values bytes → bytes ≡ result.now }
     {
         self.encoded.bytes()
     }
@@ -159,29 +159,4 @@ fn words_in(bytes: &[u8]) -> &[u8]
     ensures { result.now ≡ drop 16 bytes.now }
 {
     &bytes[HEAD_LEN..]
-}
-
-/// The format that a file's head names.
-fn format_in(head: &[u8]) -> Format
-    requires { (format : Format) × (slice_index head.now 5 ≡ tag_of format) × (5 < length head.now) }
-    ensures { (format : Format) → slice_index head.now 5 ≡ tag_of format → result ≡ format }
-{
-    Format::from_tag(head[5]).unwrap()
-}
-
-/// The width in a file's head.
-fn width_in(head: &[u8]) -> u8
-    requires { 6 < length head.now }
-    ensures { result ≡ slice_index head.now 6 }
-{
-    head[6]
-}
-
-/// How many values a file's head tells of.
-fn count_in(head: &[u8]) -> u64
-    requires { 16 ≤ length head.now }
-    ensures { result ≡ from_le_bytes w64 (take 8 (drop 8 head.now)) }
-{
-    let (words, _) = head.as_chunks::<8>();
-    u64::from_le_bytes(words[1])
 }

@@ -15,8 +15,8 @@ ghost use Rattle.definitions_columns.specs.Sizes.{front_size, file_size};
 ghost use Rattle.column_core.specs.Columns.{encoding_of, reserve, Encoded, Encoded-prop};
 
 use crate::blocks::append_block;
-use crate::heads::{COUNT_AT, HEAD_LEN, head_bytes};
-use crate::words::{append_words, word_bytes_of};
+use crate::heads::{HEAD_LEN, Head, head_bytes, set_count};
+use crate::words::append_words;
 use block_core::{BLOCK_LEN, Block, Format};
 use std::alloc::{AllocError, Global};
 use std::marker::Model;
@@ -72,15 +72,15 @@ impl Encoded {
     }
 
     /// The file that the bytes are, whose blocks start there.
-    pub fn adopt(format: Format, width: u8, count: u64, bytes: Vec<u8>, starts: Vec<u64>) -> Encoded
-        requires { (values : Items ℕ) × (count ≡ length values) × IsIndexed (format_of format) width values bytes.items starts.items }
-        ensures { (values : Items ℕ) → IsEncoded (format_of format) width values bytes.items →
-            result ≡ encoding_of format width (reserve 0 0) values }
+    pub fn adopt(head: Head, bytes: Vec<u8>, starts: Vec<u64>) -> Encoded
+        requires { (values : Items ℕ) × (head.count ≡ length values) × IsIndexed (format_of head.format) head.static_width values bytes.items starts.items }
+        ensures { (values : Items ℕ) → IsEncoded (format_of head.format) head.static_width values bytes.items →
+            result ≡ encoding_of head.format head.static_width (reserve 0 0) values }
     {
         Encoded {
-            format,
-            width,
-            count,
+            format: head.format,
+            width: head.static_width,
+            count: head.count,
             bytes,
             starts,
             reserved_bytes: 0,
@@ -119,6 +119,7 @@ impl Encoded {
     pub fn count(&self) -> u64
         ensures count { result ≡ length self.now.values }
         ensures few { length self.now.values ≤ max_rows }
+        ensures column { IsColumn self.now.values }
     {
         self.count
     }
@@ -290,13 +291,4 @@ fn tail_size(count: u64) -> usize
     ensures { result ≡ 8 * (count % block_values) }
 {
     8 * (count as usize % BLOCK_LEN)
-}
-
-/// Writes how many values there are into the head.
-fn set_count(bytes: &mut Vec<u8>, count: u64)
-    requires { 16 ≤ length bytes.old.items }
-    ensures items { bytes.new.items ≡ with_count count bytes.old.items }
-    ensures capacity { vec_capacity bytes.new ≡ vec_capacity bytes.old }
-{
-    bytes[COUNT_AT..HEAD_LEN].copy_from_slice(&word_bytes_of(count));
 }

@@ -1,7 +1,8 @@
 //! A column of which values are looked up by their places.
 
-ghost use Rattle.std.specs.Prelude.{◌≡◌, ◌/◌, ◌<◌, length, slice_index};
+ghost use Rattle.std.specs.Prelude.{◌≡◌, ◌/◌, ◌<◌, ◌≤◌, length, slice_index};
 ghost use Rattle.definitions_blocks.specs.Blocks.{block_values, block_at};
+ghost use Rattle.block_core.specs.Counts.{next_count};
 
 use crate::columns::Column;
 use block_core::{BLOCK_LEN, Block, Format, PlaceSource, Steps};
@@ -108,7 +109,14 @@ impl<'a, const L: usize> PlaceSource for Gather<'a, L> {
         self.column.count()
     }
 
-    fn value_at<G>(&mut self, place: u64, steps: &mut Steps<G>) -> u64 {
+    fn value_at<G>(&mut self, place: u64, steps: &mut Steps<G>) -> u64
+        requires { place < length self.old }
+        ensures value { result ≡ slice_index self.old place }
+        ensures list { self.new ≡ self.old }
+        ensures counted { steps.new ≡ next_count steps.old }
+        ensures later { steps.old ≤ steps.new }
+        ensures steps { steps.new ≤ next_count steps.old }
+    {
         steps.tick();
         let number = place / BLOCK_LEN as u64;
         let offset = place % BLOCK_LEN as u64;

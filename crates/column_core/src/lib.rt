@@ -11,6 +11,7 @@ mod cursors;
 mod encodings;
 mod gathers;
 mod heads;
+mod laws;
 mod words;
 
 pub use blocks::{block_len, check_block, decode_block, encode_block};
@@ -18,4 +19,5 @@ pub use builders::{Builder, encode_list};
 pub use columns::Column;
 pub use cursors::Cursor;
 pub use gathers::Gather;
-pub use heads::{HEAD_LEN, head_bytes};
+pub use heads::{HEAD_LEN, Head, head_bytes, read_head};
+pub use laws::{has_file, one_column, one_file};

@@ -4,7 +4,6 @@
 //! the first fault.
 #![tactic(auto)]
 
-mod heads;
 mod reading;
 
 pub use reading::{ColumnError, read_column};

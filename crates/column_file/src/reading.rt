@@ -11,12 +11,12 @@ ghost use Rattle.definitions_blocks.specs.Encodings.{width_of};
 ghost use Rattle.definitions_columns.proofs.FaultLaws.{next_width};
 ghost use Rattle.block_core.specs.Formats.{format_of};
 ghost use Rattle.column_core.specs.Columns.{shape};
-ghost use Rattle.column_file.specs.Reading.{BeginsWithHead, ReadSo};
+ghost use Rattle.column_core.specs.Heads.{BeginsWithHead};
+ghost use Rattle.column_file.specs.Reading.{ReadSo};
 ghost use Rattle.column_file.specs.Faults.{fault_of, Says};
 
-use crate::heads::{Head, read_head};
 use block_core::{BLOCK_LEN, Block, Format};
-use column_core::{Column, HEAD_LEN, check_block, decode_block};
+use column_core::{Column, HEAD_LEN, Head, check_block, decode_block, read_head};
 use std::alloc::{AllocError, Global};
 use stream_core::{Bytes, List};
 
@@ -75,7 +75,7 @@ fn starts_of(alloc: Global, bytes: &[u8]) -> Result<Vec<u64>, ColumnError>
         None => return Err(ColumnError::BadHeader),
     };
     let found = read_blocks(alloc, head, bytes)?;
-    if found.widest != head.width {
+    if found.widest != head.static_width {
         return Err(ColumnError::BadWidth);
     }
     if (bytes.len() - found.end) as u64 != 8 * (head.count % BLOCK_LEN as u64) {
@@ -94,8 +94,8 @@ struct Blocks {
 
 /// Reads all blocks that the head tells of.
 fn read_blocks(alloc: Global, head: Head, bytes: &[u8]) -> Result<Blocks, ColumnError>
-    requires { BeginsWithHead (format_of head.format) head.width head.count bytes.now }
-    ensures ok { IfOk result (λ found. ReadSo (format_of head.format) head.width head.count (head.count / block_values)
+    requires { BeginsWithHead (format_of head.format) head.static_width head.count bytes.now }
+    ensures ok { IfOk result (λ found. ReadSo (format_of head.format) head.static_width head.count (head.count / block_values)
         found.end found.widest bytes.now found.starts.items) }
     ensures fault { IfErr result (Says bytes.now) }
 {
@@ -106,7 +106,7 @@ fn read_blocks(alloc: Global, head: Head, bytes: &[u8]) -> Result<Blocks, Column
     let mut widest = 0;
     for block in 0..blocks {
         let rest = rest_from(bytes, end);
-        match check_block(head.format, head.width, rest) {
+        match check_block(head.format, head.static_width, rest) {
             Some(len) => {
                 note(&mut starts, end)?;
                 widest = widened(head, widest, part(rest, len), &mut scratch);
@@ -125,12 +125,12 @@ fn read_blocks(alloc: Global, head: Head, bytes: &[u8]) -> Result<Blocks, Column
 /// The least width that holds the blocks so far and this one. Only in the format `static`, and until the width in the head is
 /// reached, is a block opened for it.
 fn widened(head: Head, widest: u8, bytes: &[u8], scratch: &mut Block) -> u8
-    requires encoded { (values : Items ℕ) × BlockOf (format_of head.format) head.width values bytes.now }
-    ensures { (values : Items ℕ) → BlockOf (format_of head.format) head.width values bytes.now →
+    requires encoded { (values : Items ℕ) × BlockOf (format_of head.format) head.static_width values bytes.now }
+    ensures { (values : Items ℕ) → BlockOf (format_of head.format) head.static_width values bytes.now →
         result ≡ next_width (format_of head.format) widest values }
 {
     match head.format {
-        Format::Static => widened_static(head.width, widest, bytes, scratch),
+        Format::Static => widened_static(head.static_width, widest, bytes, scratch),
         _ => widest,
     }
 }

@@ -101,13 +101,15 @@ has_file format values column =
     let front : Cut format width (whole_blocks values) =
     cut format width number (whole_blocks values) (static_width_of-lawful format values words) (omega (arith, length-take (number * block_values) values)) (whole_below 64 values words)
     (static_width_of-holds format values words) in
-    let tail = drop (number * block_values) values in
-    (column_head (tag_of format) width (length values) ++ (piece_bytes front.pieces ++ words_of tail), record {
-      column = column;
-      pieces = front.pieces;
-      tail = tail;
-      blocks = front.blocks;
-      short = omega (arith, length-drop (number * block_values) values);
-      values_are = sym (take-append-drop (number * block_values) values) ∙ ap (λ (l : List ℕ). l ++ tail) front.values_are;
-      bytes_are = refl;
-    })
+    let tail = drop (number * block_values) values in (
+      column_head (tag_of format) width (length values) ++ (piece_bytes front.pieces ++ words_of tail),
+      record {
+        column = column;
+        pieces = front.pieces;
+        tail = tail;
+        blocks = front.blocks;
+        short = omega (arith, length-drop (number * block_values) values);
+        values_are = sym (take-append-drop (number * block_values) values) ∙ ap (λ (l : List ℕ). l ++ tail) front.values_are;
+        bytes_are = refl;
+      },
+    )
