@@ -17,8 +17,7 @@ use block_core::{BLOCK_LEN, Block, Format};
 use std::marker::Model;
 use stream_core::{Bytes, List};
 
-/// A list of at most 268,435,456 numbers in one format. It holds the column's file, and for each whole block where its
-/// encoding starts.
+/// A list of at most 268,435,456 numbers in one format. It holds the column's file, and where each whole block starts in it.
 #[derive(Drop)]
 pub struct Column {
     encoded: Encoded,
@@ -38,7 +37,7 @@ impl Model for Column {
 }
 
 impl Column {
-    /// The column whose file the bytes are, and whose blocks start there. Nothing is read but the head.
+    /// The column whose file the bytes are, with the places where its whole blocks start. Only the head is read.
     pub fn adopt(bytes: Bytes, starts: List<u64>) -> Column
         requires { (format : Format) × (values : Items ℕ)
             × IsIndexed (format_of format) (static_width_of (format_of format) values) values bytes starts }
@@ -50,7 +49,7 @@ impl Column {
         }
     }
 
-    /// The column of an encoding whose width is the least.
+    /// The column that was encoded at the least width.
     pub(crate) fn from_encoded(encoded: Encoded) -> Column
         requires { encoded.width ≡ static_width_of (format_of encoded.format) encoded.values }
         ensures { result ≡ shape encoded.format encoded.values }
@@ -73,7 +72,7 @@ impl Column {
         self.encoded.count()
     }
 
-    /// The width in the head: in the format `static` the least that holds every value of the whole blocks, and else 0. A
+    /// The width in the head: in the format `static` the least that holds each value of the whole blocks, in any other 0. A
     /// builder of the same format and list may be given it.
     pub fn static_width(&self) -> u8
         ensures width { result ≡ static_width_of (format_of self.now.format) self.now.values }
@@ -108,7 +107,7 @@ impl Column {
         word_at(self.encoded.tail_bytes(), place as usize)
     }
 
-    /// Leaves the values of a block in `into`, the last of which may be the tail.
+    /// Leaves the values of a block in `into`. The last block may be the tail, which is not whole.
     pub(crate) fn read_block<const L: usize>(&self, number: u64, into: &mut Block)
         requires { number * block_values < length self.now.values }
         ensures { into.new ≡ block_at self.now.values number }
@@ -131,7 +130,7 @@ impl Column {
         word_at(words_in(self.encoded.bytes()), place as usize)
     }
 
-    /// A value of a whole block, without opening the block, in the formats where that is cheap.
+    /// A value of a whole block, which is not decoded for it. There is none in the formats that give no value cheaper than all.
     pub(crate) fn pick(&self, number: u64, place: u64) -> Option<u64>
         requires whole { number < length self.now.values / block_values }
         requires within { place < block_values }

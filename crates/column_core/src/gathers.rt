@@ -8,15 +8,15 @@ use crate::columns::Column;
 use block_core::{BLOCK_LEN, Block, Format, PlaceSource, Steps};
 use std::marker::Model;
 
-/// To decode a block costs about as much as to pick one value of so many, if they are spread evenly.
+/// If one value in so many is asked for, picking them costs about as much as decoding the block.
 const SPARSE: u64 = 16;
 
-/// How many values are picked from a block at least before it is decoded.
+/// The minimum of values that are picked from a block before it is decoded.
 const MIN_PICKS: u64 = 8;
 
 /// Looks values of a column up by their places, in any order. A value of a `plain` column is read where it stands. In any other
-/// format it holds one block: while places stay in a block that is decoded it is decoded once, and where a value can be picked
-/// from the bytes, a block is decoded only once many were.
+/// format the block that was decoded last is held, and its values are read there. If the format lets single values be picked
+/// from the bytes, a block is decoded only after many of its values were picked.
 #[derive(Drop)]
 pub struct Gather<'a, const L: usize> {
     column: &'a Column,
@@ -52,8 +52,8 @@ impl<'a, const L: usize> Gather<'a, L> {
         }
     }
 
-    /// The value at a place whose block is not held. It stands apart so that a look-up in the block that is held, or in a plain
-    /// column, stays short.
+    /// The value at a place whose block is not held. It is a call of its own, so that a look-up in the block that is held, or in a
+    /// plain column, stays short.
     #[inline(never)]
     fn find(&mut self, place: u64) -> u64
         requires { place < length self.old }

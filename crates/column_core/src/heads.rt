@@ -47,8 +47,8 @@ pub fn head_bytes(format: Format, static_width: u8, count: u64) -> [u8; 16]
     head
 }
 
-/// The head that the bytes begin with, where they begin with one. They are compared with the head that they ask for, so each
-/// of the 16 bytes is right.
+/// The head that the bytes begin with, if they begin with one that some column's file can have. The 16 bytes are compared with
+/// those that their own format, width and count ask for.
 pub fn read_head(bytes: &[u8]) -> Option<Head>
     ensures { MatchOption result (LacksHead bytes.now)
         (λ head. BeginsWithHead (format_of head.format) head.static_width head.count bytes.now) }
@@ -73,7 +73,7 @@ pub fn read_head(bytes: &[u8]) -> Option<Head>
     }
 }
 
-/// Whether some column's file has this head.
+/// Whether some column's file can have this head.
 fn is_lawful(head: Head) -> bool
     ensures { IsTrue result ↔ IsHead (format_of head.format) head.static_width head.count }
 {

@@ -1,6 +1,6 @@
-//! Columns in their formats, as bytes and as lists.
+//! Columns in all formats, as lists and as the bytes of files.
 //!
-//! A column file is the one encoding of a list of 64-bit numbers in a format.
+//! A list of 64-bit numbers has one file in each format. So a column is its file, and callers see it as a format and a list.
 #![tactic(auto)]
 
 mod block_heads;
