@@ -1,13 +1,12 @@
--- The list of an encoding_of is the one that its bytes encode, and where its blocks stand.
+-- The list of an encoding is the one that its bytes encode, and where its blocks stand.
 use Rattle.std.proofs.Common.{◌≡◌, ℕ, zero, suc, ◌+◌, ◌-◌, ◌*◌, ◌/◌, ◌%◌, ◌^◌, ◌<◌, ◌≤◌, List, [], ◌∷◌, ◌++◌, length, take, drop, get_or, Result, Ok, Err, OnErr, refl, sym, ap, ap₂, ◌∙◌, subst, inl, inr, arith, length-append}
-use Rattle.std.specs.Int.{from_le_bytes, w64}
 use Rattle.std.specs.Simd.{first_chunks}
 use Rattle.std.proofs.lemmas.Bool.{cases_lt}
 use Rattle.std.proofs.lemmas.List.{take_at, drop_at, length-take, length-drop, get_or-take, get_or-drop}
-use Rattle.definitions_blocks.proofs.WordLaws.{length-word_bytes, from_le_bytes-word_bytes}
+use Rattle.definitions_blocks.proofs.WordLaws.{length-word_bytes}
 use Rattle.definitions_blocks.specs.Blocks.{block_values, block_at}
 use Rattle.definitions_blocks.specs.Columns.{max_rows}
-use Rattle.definitions_columns.specs.ColumnFiles.{column_head, piece_bytes, IsEncoded, IsIndexed}
+use Rattle.definitions_columns.specs.ColumnFiles.{column_head, IsEncoded, IsIndexed}
 use Rattle.definitions_blocks.specs.Words.{word_bytes, words_of}
 use Rattle.definitions_blocks.specs.Formats as columns
 use Rattle.definitions_blocks.specs.Formats.{BlockOf}
@@ -59,12 +58,12 @@ empty_file format width bytes starts head none =
     subst (λ l. IsIndexed (format_of format) width [] l starts) (sym head)
     (subst (IsIndexed (format_of format) width [] (column_head (tag_of format) width 0)) (sym none) (IsIndexed-empty (format_of format) width))
 
--- A change of an encoding_of, from what its bytes and starts become.
+-- A change of an encoding, from what its bytes and starts become.
 pub record IsChange (format : Format) (width count : ℕ) (bytes starts : List ℕ) (values : List ℕ) : Type 0 where
   pub indexed : IsIndexed (format_of format) width values bytes starts
   pub counted : count ≡ length values
 
--- what an encoding_of becomes by a block
+-- what an encoding becomes by a block
 pub pushed : (format : Format) (width count : ℕ) (values before begun block bytes starts : List ℕ) → IsIndexed (format_of format) width values before begun → count ≡ length values + block_values
     → length values % block_values ≡ 0 → length values + block_values ≤ max_rows
     → (encoding : List ℕ) × BlockOf (format_of format) width block encoding × (bytes ≡ with_count count (before ++ encoding)) → starts ≡ begun ++ length before ∷ []
@@ -78,7 +77,7 @@ pushed format width count values before begun block bytes starts is counted whol
       counted = counted ∙ omega (arith, length-append values block, (BlockOf-full (format_of format) width block encoded.0 encoded.1).whole);
     }
 
--- what an encoding_of becomes by its tail
+-- what an encoding becomes by its tail
 pub tailed : (format : Format) (width count : ℕ) (values before begun tail bytes : List ℕ) → IsIndexed (format_of format) width values before begun → count ≡ length values + length tail
     → length values % block_values ≡ 0 → length values + length tail ≤ max_rows → length tail < block_values → ((i : ℕ) → get_or tail i 0 < 2 ^ 64) → bytes ≡ with_count count (before ++ words_of tail)
     → IsChange format width count bytes begun (values ++ tail)
@@ -90,7 +89,7 @@ tailed format width count values before begun tail bytes is counted whole few sh
       counted = counted ∙ sym (length-append values tail);
     }
 
--- an encoding_of that did not change
+-- an encoding that did not change
 pub unchanged : (format : Format) (width count : ℕ) (values before begun bytes starts : List ℕ) → IsIndexed (format_of format) width values before begun → count ≡ length values → bytes ≡ before → starts ≡ begun
     → IsChange format width count bytes starts values
 unchanged format width count values before begun bytes starts is counted same begins = record {
@@ -120,33 +119,6 @@ chunks_of_words (value ∷ values) zero other within = take_at (word_bytes value
 chunks_of_words (value ∷ values) (suc place) other within =
     let rest : drop 8 (words_of (value ∷ values)) ≡ words_of values = drop_at (word_bytes value) (words_of values) 8 (length-word_bytes value) in
     ap (λ l. get_or (first_chunks 8 (length values) l) place other) rest ∙ chunks_of_words values place other (omega arith)
-
--- what a file's head tells
-pub record HeadCells (format : columns.Format) (width : ℕ) (values bytes : List ℕ) : Type 0 where
-  pub tag : get_or bytes 5 0 ≡ columns.tag_of format
-  pub widths : get_or bytes 6 0 ≡ width
-  pub count : from_le_bytes w64 (take 8 (drop 8 bytes)) ≡ length values
-  pub long : 16 ≤ length bytes
-
-pub head_cells : (format : columns.Format) (width : ℕ) (values bytes : List ℕ) → IsEncoded format width values bytes → HeadCells format width values bytes
-head_cells format width values bytes is =
-    let rest = piece_bytes is.pieces ++ words_of is.tail in
-    let word : take 8 (drop 8 bytes) ≡ word_bytes (length values) = ap (λ l. take 8 (drop 8 l)) is.bytes_are ∙ take_at (word_bytes (length values)) rest 8 (length-word_bytes (length values)) in
-    record {
-      tag = ap (λ l. get_or l 5 0) is.bytes_are;
-      widths = ap (λ l. get_or l 6 0) is.bytes_are;
-      count = ap (from_le_bytes w64) word ∙ from_le_bytes-word_bytes (length values) (omega (arith, is.column.few));
-      long = omega (arith, encoded_size format width values bytes is);
-    }
-
--- a column as its head was read
-pub as_read : (format read : Format) (width wide : ℕ) (values bytes owned starts begun : List ℕ) → read ≡ format → wide ≡ width → owned ≡ bytes → begun ≡ starts
-    → IsIndexed (format_of format) width values bytes starts → IsIndexed (format_of read) wide values owned begun
-as_read format read width wide values bytes owned starts begun formats widths own begins is =
-    subst (λ f. IsIndexed (format_of f) wide values owned begun) (sym formats)
-    (subst (λ w. IsIndexed (format_of format) w values owned begun) (sym widths)
-    (subst (λ l. IsIndexed (format_of format) width values l begun) (sym own)
-    (subst (IsIndexed (format_of format) width values bytes) (sym begins) is)))
 
 -- A whole block of a list, and its values.
 pub length-block_at : (values : List ℕ) (number : ℕ) → number < length values / block_values → length (block_at values number) ≡ block_values

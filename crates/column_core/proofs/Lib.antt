@@ -1,5 +1,6 @@
 pub mod BlockLemmas
 pub mod EncodedLemmas
+pub mod HeadLemmas
 pub mod BuilderLemmas
 pub mod PlainLemmas
 pub mod ReserveLemmas

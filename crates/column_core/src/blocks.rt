@@ -1,4 +1,4 @@
-//! One block in any format. The packing of each format is chosen here and nowhere else.
+//! One block in any format. Only here is the packing of a format chosen.
 
 ghost use Rattle.std.specs.Prelude.{◌≡◌, ◌+◌, ◌<◌, ◌≤◌, ◌++◌, ◌^◌, ℕ, List, length, take, slice_index, OnOk, OnErr, IsOk, IfSome, MatchOption, vec_len};
 ghost use Rattle.std.specs.Vec.{vec_capacity};
@@ -17,7 +17,7 @@ use cascade_formats::{Cascade, Delta1, Delta16, Reference};
 use run_formats::Runs;
 use std::alloc::AllocError;
 
-/// How long the block of the format is that the bytes begin with, where they begin with one. Each byte of it is read once.
+/// How long the block is that the bytes begin with, if they begin with one of the format. Each byte of it is read once.
 pub fn check_block(format: Format, static_width: u8, bytes: &[u8]) -> Option<usize>
     requires { IsColumnWidth (format_of format) static_width }
     ensures { MatchOption result (LacksBlock (format_of format) static_width bytes.now)
@@ -69,7 +69,7 @@ pub fn encode_block<const L: usize>(format: Format, static_width: u8, full: &Blo
     }
 }
 
-/// Leaves in `into` the block that the bytes encode. Nothing is checked again.
+/// Leaves in `into` the block that the bytes encode. Nothing is checked, since they are known to encode one.
 pub fn decode_block<const L: usize>(
     format: Format,
     static_width: u8,
@@ -91,7 +91,7 @@ pub fn decode_block<const L: usize>(
     }
 }
 
-/// The value at a place of the block that the bytes encode, in the formats whose blocks give one value cheaper than all.
+/// The value at a place of the block that the bytes encode. There is none in the formats that give no value cheaper than all.
 pub(crate) fn pick_value(
     format: Format,
     static_width: u8,

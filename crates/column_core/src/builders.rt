@@ -1,6 +1,6 @@
 //! Columns built from values: one by one, or from a list.
 
-ghost use Rattle.std.specs.Prelude.{◌≡◌, ◌+◌, ◌%◌, ◌<◌, ◌≤◌, ◌++◌, ◌∷◌, [], ◌^◌, ℕ, length, take, drop, slice_index, max, true, IsOk, IfOk, OnOk, OnErr};
+ghost use Rattle.std.specs.Prelude.{◌≡◌, ◌+◌, ◌%◌, ◌<◌, ◌≤◌, ◌++◌, ◌∷◌, [], length, take, drop, max, true, IsOk, IfOk, OnOk, OnErr};
 ghost use Rattle.definitions_blocks.specs.Blocks.{block_values, IsFull};
 ghost use Rattle.definitions_blocks.specs.Columns.{max_rows};
 ghost use Rattle.definitions_blocks.specs.Formats.{IsColumnWidth, FitsFormat};
@@ -12,13 +12,13 @@ ghost use Rattle.column_core.specs.Scopes.{IsBuilding};
 
 use crate::columns::Column;
 use crate::encodings::Encoded;
-use block_core::{BLOCK_LEN, Block, Emit, Format};
+use block_core::{BLOCK_LEN, Block, Emit, Format, words_fit};
 use std::alloc::{AllocError, Global};
 use std::marker::Model;
 use strand_pack::width_of_values;
 
-/// Builds the column of the values that are pushed. It holds one block: a full block is encoded once, when the next value
-/// comes or the column is finished.
+/// Builds the column of the values that are pushed. It holds one block, and encodes it when it is full and the next value comes,
+/// or when the column is finished.
 #[derive(Drop)]
 pub struct Builder {
     encoded: Encoded,
@@ -50,8 +50,10 @@ impl Builder {
         })
     }
 
-    /// Makes room: a push is `Ok` where the head and the whole blocks of the list have at most so many bytes and the list
-    /// at most so many values, and `finish` where the whole file has. An `Err` changes nothing.
+    /// Takes memory ahead, so that pushes need none. From now on a push is `Ok` as long as the head and the whole blocks of the
+    /// list have at most so many bytes, and the list has at most so many values; `finish` is, if the whole file has no more.
+    /// The room is for the whole list, with what was pushed before. Less than is reserved already changes nothing, and so
+    /// does an `Err`.
     pub fn reserve(&mut self, bytes: u64, count: u64) -> Result<(), AllocError>
         ensures ok { OnOk result (self.new ≡ encoding_of self.old.format self.old.width
             (reserve (max self.old.reserve.bytes bytes) (max self.old.reserve.count count)) self.old.values) }
@@ -60,7 +62,7 @@ impl Builder {
         self.encoded.reserve(bytes, count)
     }
 
-    /// Takes as many of the first values as have a place in one block. An `Err` changes nothing.
+    /// Takes as many of the first values as have a place in the block that waits. An `Err` changes nothing.
     fn take_some(&mut self, values: &[u64]) -> Result<usize, AllocError>
         requires some { 0 < length values.now }
         requires few { length self.old.values + length values.now ≤ max_rows }
@@ -102,7 +104,9 @@ impl Emit for Builder {
     ghost use Rattle.definitions_columns.specs.ColumnFiles.{fits_columns};
     ghost use Rattle.block_core.specs.Formats.{format_of};
     ghost use Rattle.column_core.specs.Columns.{encoding_of};
-    ghost use Rattle.column_core.specs.Scopes.{Frame, frame, has_room, has_room-front, HoldsOfPrefixes-fits_columns};
+    ghost use Rattle.column_core.specs.Scopes.{Frame, frame, has_room};
+    ghost use Rattle.definitions_columns.proofs.WidthLaws.{fits_columns-front};
+    ghost use Rattle.definitions_columns.proofs.SizeLaws.{is_within_room-front};
 
     ghost Frame = { Frame };
 
@@ -142,9 +146,9 @@ impl Emit for Builder {
         Ok(())
     }
 
-    ghost scope_law = { λ of values rest. HoldsOfPrefixes-fits_columns (format_of of.format) of.width values rest };
+    ghost scope_law = { λ of values rest. fits_columns-front (format_of of.format) of.width values rest };
 
-    ghost room_law = { has_room-front };
+    ghost room_law = { λ of values rest. is_within_room-front (format_of of.format) of.width of.reserve.bytes of.reserve.count values rest };
 }
 
 /// Encodes a full block, and empties it. An `Err` changes nothing.
@@ -163,12 +167,6 @@ fn flush(encoded: &mut Encoded, block: &mut Block) -> Result<(), AllocError>
     block.clear();
     Ok(())
 }
-
-/// That a value is below 2^64 follows from the type of a slice. A call tells it to the proof, and costs nothing.
-#[inline(always)]
-fn words_fit(values: &[u64])
-    ensures { (k : ℕ) → slice_index values.now k < 2 ^ 64 }
-{}
 
 /// The first values.
 fn first_of(values: &[u64], count: usize) -> &[u64]
@@ -198,7 +196,7 @@ fn least_width(format: Format, whole: &[u64]) -> u8
     }
 }
 
-/// Makes a full block the values.
+/// Writes the values over a full block.
 fn fill_from(block: &mut Block, values: &[u64])
     requires full { length block.old ≡ block_values }
     requires whole { length values.now ≡ block_values }

@@ -3,7 +3,7 @@
 ghost use Rattle.std.specs.Prelude.{◌≡◌, ◌+◌, ◌*◌, ◌/◌, ◌%◌, ◌<◌, ◌≤◌, ℕ, List as Items, length, slice_index, take, drop, true, IfSome};
 ghost use Rattle.std.specs.Int.{from_le_bytes, w64};
 ghost use Rattle.definitions_blocks.specs.Blocks.{block_values, block_at};
-ghost use Rattle.definitions_blocks.specs.Columns.{max_rows};
+ghost use Rattle.definitions_blocks.specs.Columns.{IsColumn, max_rows};
 ghost use Rattle.definitions_blocks.specs.Formats.{plain, BlockOf, IsColumnWidth};
 ghost use Rattle.definitions_columns.specs.ColumnFiles.{IsColumnFile, IsIndexed, fits_columns, static_width_of};
 ghost use Rattle.block_core.specs.Formats.{format_of, tag_of};
@@ -11,14 +11,13 @@ ghost use Rattle.column_core.specs.Columns.{shape};
 
 use crate::blocks::{decode_block, pick_value};
 use crate::encodings::Encoded;
-use crate::heads::HEAD_LEN;
+use crate::heads::{HEAD_LEN, head_of};
 use crate::words::{push_words, word_at};
 use block_core::{BLOCK_LEN, Block, Format};
 use std::marker::Model;
 use stream_core::{Bytes, List};
 
-/// A list of at most 268,435,456 numbers in one format. It holds the column's file, and for each whole block where its
-/// encoding starts.
+/// A list of at most 268,435,456 numbers in one format. It holds the column's file, and where each whole block starts in it.
 #[derive(Drop)]
 pub struct Column {
     encoded: Encoded,
@@ -38,21 +37,19 @@ impl Model for Column {
 }
 
 impl Column {
-    /// The column whose file the bytes are, and whose blocks start there. Nothing is read but the head.
+    /// The column whose file the bytes are, with the places where its whole blocks start. Only the head is read.
     pub fn adopt(bytes: Bytes, starts: List<u64>) -> Column
         requires { (format : Format) × (values : Items ℕ)
             × IsIndexed (format_of format) (static_width_of (format_of format) values) values bytes starts }
         ensures { (format : Format) (values : Items ℕ) → IsColumnFile (format_of format) values bytes → result ≡ shape format values }
     {
-        let format = format_in(bytes.as_slice());
-        let width = width_in(bytes.as_slice());
-        let count = count_in(bytes.as_slice());
+        let head = head_of(bytes.as_slice());
         Column {
-            encoded: Encoded::adopt(format, width, count, bytes.into_vec(), starts.into_vec()),
+            encoded: Encoded::adopt(head, bytes.into_vec(), starts.into_vec()),
         }
     }
 
-    /// The column of an encoding whose width is the least.
+    /// The column that was encoded at the least width.
     pub(crate) fn from_encoded(encoded: Encoded) -> Column
         requires { encoded.width ≡ static_width_of (format_of encoded.format) encoded.values }
         ensures { result ≡ shape encoded.format encoded.values }
@@ -70,11 +67,12 @@ impl Column {
     pub fn count(&self) -> u64
         ensures count { result ≡ length self.now.values }
         ensures few { length self.now.values ≤ max_rows }
+        ensures column { IsColumn self.now.values }
     {
         self.encoded.count()
     }
 
-    /// The width in the head: in the format `static` the least that holds every value of the whole blocks, and else 0. A
+    /// The width in the head: in the format `static` the least that holds each value of the whole blocks, in any other 0. A
     /// builder of the same format and list may be given it.
     pub fn static_width(&self) -> u8
         ensures width { result ≡ static_width_of (format_of self.now.format) self.now.values }
@@ -86,7 +84,8 @@ impl Column {
 
     /// The column's file.
     pub fn encoded(&self) -> &[u8]
-        ensures { IsColumnFile (format_of self.now.format) self.now.values result.now }
+        ensures file { IsColumnFile (format_of self.now.format) self.now.values result.now }
+        ensures one { (bytes : Items ℕ) → IsColumnFile (format_of self.now.format) self.now.values bytes → bytes ≡ result.now }
     {
         self.encoded.bytes()
     }
@@ -108,7 +107,7 @@ impl Column {
         word_at(self.encoded.tail_bytes(), place as usize)
     }
 
-    /// Leaves the values of a block in `into`, the last of which may be the tail.
+    /// Leaves the values of a block in `into`. The last block may be the tail, which is not whole.
     pub(crate) fn read_block<const L: usize>(&self, number: u64, into: &mut Block)
         requires { number * block_values < length self.now.values }
         ensures { into.new ≡ block_at self.now.values number }
@@ -131,7 +130,7 @@ impl Column {
         word_at(words_in(self.encoded.bytes()), place as usize)
     }
 
-    /// A value of a whole block, without opening the block, in the formats where that is cheap.
+    /// A value of a whole block, which is not decoded for it. There is none in the formats that give no value cheaper than all.
     pub(crate) fn pick(&self, number: u64, place: u64) -> Option<u64>
         requires whole { number < length self.now.values / block_values }
         requires within { place < block_values }
@@ -159,29 +158,4 @@ fn words_in(bytes: &[u8]) -> &[u8]
     ensures { result.now ≡ drop 16 bytes.now }
 {
     &bytes[HEAD_LEN..]
-}
-
-/// The format that a file's head names.
-fn format_in(head: &[u8]) -> Format
-    requires { (format : Format) × (slice_index head.now 5 ≡ tag_of format) × (5 < length head.now) }
-    ensures { (format : Format) → slice_index head.now 5 ≡ tag_of format → result ≡ format }
-{
-    Format::from_tag(head[5]).unwrap()
-}
-
-/// The width in a file's head.
-fn width_in(head: &[u8]) -> u8
-    requires { 6 < length head.now }
-    ensures { result ≡ slice_index head.now 6 }
-{
-    head[6]
-}
-
-/// How many values a file's head tells of.
-fn count_in(head: &[u8]) -> u64
-    requires { 16 ≤ length head.now }
-    ensures { result ≡ from_le_bytes w64 (take 8 (drop 8 head.now)) }
-{
-    let (words, _) = head.as_chunks::<8>();
-    u64::from_le_bytes(words[1])
 }

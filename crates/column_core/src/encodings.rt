@@ -15,14 +15,14 @@ ghost use Rattle.definitions_columns.specs.Sizes.{front_size, file_size};
 ghost use Rattle.column_core.specs.Columns.{encoding_of, reserve, Encoded, Encoded-prop};
 
 use crate::blocks::append_block;
-use crate::heads::{COUNT_AT, HEAD_LEN, head_bytes};
-use crate::words::{append_words, word_bytes_of};
+use crate::heads::{HEAD_LEN, Head, head_bytes, set_count};
+use crate::words::append_words;
 use block_core::{BLOCK_LEN, Block, Format};
 use std::alloc::{AllocError, Global};
 use std::marker::Model;
 
-/// A list in one format, as the file that encodes it, at a width that need not be the least yet. Beside the bytes it keeps
-/// where each whole block starts: 8 bytes a block. It has room for what is reserved.
+/// A list in one format, as the file that encodes it. The width need not be the least yet. Beside the bytes it keeps where each
+/// whole block starts, in 8 bytes a block. Memory for what is reserved is held already.
 #[derive(Drop)]
 pub struct Encoded {
     format: Format,
@@ -71,16 +71,16 @@ impl Encoded {
         })
     }
 
-    /// The file that the bytes are, whose blocks start there.
-    pub fn adopt(format: Format, width: u8, count: u64, bytes: Vec<u8>, starts: Vec<u64>) -> Encoded
-        requires { (values : Items ℕ) × (count ≡ length values) × IsIndexed (format_of format) width values bytes.items starts.items }
-        ensures { (values : Items ℕ) → IsEncoded (format_of format) width values bytes.items →
-            result ≡ encoding_of format width (reserve 0 0) values }
+    /// The list whose file the bytes are, with what their head tells and the places where its whole blocks start.
+    pub fn adopt(head: Head, bytes: Vec<u8>, starts: Vec<u64>) -> Encoded
+        requires { (values : Items ℕ) × (head.count ≡ length values) × IsIndexed (format_of head.format) head.static_width values bytes.items starts.items }
+        ensures { (values : Items ℕ) → IsEncoded (format_of head.format) head.static_width values bytes.items →
+            result ≡ encoding_of head.format head.static_width (reserve 0 0) values }
     {
         Encoded {
-            format,
-            width,
-            count,
+            format: head.format,
+            width: head.static_width,
+            count: head.count,
             bytes,
             starts,
             reserved_bytes: 0,
@@ -88,7 +88,8 @@ impl Encoded {
         }
     }
 
-    /// Makes room for a file of so many bytes and values. An `Err` changes nothing.
+    /// Takes memory for a file of so many bytes, and for the starts of the blocks of so many values. What was reserved stays so.
+    /// An `Err` changes nothing.
     pub fn reserve(&mut self, bytes: u64, count: u64) -> Result<(), AllocError>
         ensures ok { OnOk result (self.new ≡ encoding_of self.old.format self.old.width
             (reserve (max self.old.reserve.bytes bytes) (max self.old.reserve.count count)) self.old.values) }
@@ -119,6 +120,7 @@ impl Encoded {
     pub fn count(&self) -> u64
         ensures count { result ≡ length self.now.values }
         ensures few { length self.now.values ≤ max_rows }
+        ensures column { IsColumn self.now.values }
     {
         self.count
     }
@@ -152,7 +154,7 @@ impl Encoded {
         tail_part(self.bytes.as_slice(), tail_size(self.count))
     }
 
-    /// Appends a whole block to whole blocks. An `Err` changes nothing.
+    /// Appends a whole block behind whole blocks. An `Err` changes nothing.
     pub fn push_block(&mut self, full: &Block) -> Result<(), AllocError>
         requires whole { length self.old.values % block_values ≡ 0 }
         requires few { length self.old.values + block_values ≤ max_rows }
@@ -241,7 +243,7 @@ fn finish(tail: &[u64], count: u64, bytes: &mut Vec<u8>) -> Result<(), AllocErro
     Ok(())
 }
 
-/// Makes room for so many items in all. The items stay, and so they do after an `Err`.
+/// Takes memory for so many items in all. The items stay, also after an `Err`.
 fn make_room<T>(items: &mut Vec<T>, wanted: usize) -> Result<(), AllocError>
     ensures items { items.new.items ≡ items.old.items }
     ensures ok { OnOk result (wanted ≤ vec_capacity items.new) }
@@ -253,7 +255,7 @@ fn make_room<T>(items: &mut Vec<T>, wanted: usize) -> Result<(), AllocError>
     items.reserve(wanted - items.len())
 }
 
-/// The encoding of a whole block, which ends where the next one starts or the tail of so many bytes.
+/// The encoding of a whole block. It ends where the next one starts, or else the tail, which has so many bytes.
 fn block_part<'a>(bytes: &'a [u8], starts: &[u64], block: usize, tail: usize) -> &'a [u8]
     requires { (format : columns.Format) × (width : ℕ) × (values : Items ℕ) × IsIndexed format width values bytes.now starts.now
         × (block < length values / block_values) × (tail ≡ 8 * (length values % block_values)) }
@@ -277,6 +279,7 @@ fn tail_part(bytes: &[u8], tail: usize) -> &[u8]
     &bytes[bytes.len() - tail..]
 }
 
+/// The bytes from one place to another.
 fn part(bytes: &[u8], start: usize, end: usize) -> &[u8]
     requires forward { start ≤ end }
     requires within { end ≤ length bytes.now }
@@ -290,13 +293,4 @@ fn tail_size(count: u64) -> usize
     ensures { result ≡ 8 * (count % block_values) }
 {
     8 * (count as usize % BLOCK_LEN)
-}
-
-/// Writes how many values there are into the head.
-fn set_count(bytes: &mut Vec<u8>, count: u64)
-    requires { 16 ≤ length bytes.old.items }
-    ensures items { bytes.new.items ≡ with_count count bytes.old.items }
-    ensures capacity { vec_capacity bytes.new ≡ vec_capacity bytes.old }
-{
-    bytes[COUNT_AT..HEAD_LEN].copy_from_slice(&word_bytes_of(count));
 }

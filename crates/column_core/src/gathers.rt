@@ -1,21 +1,22 @@
 //! A column of which values are looked up by their places.
 
-ghost use Rattle.std.specs.Prelude.{◌≡◌, ◌/◌, ◌<◌, length, slice_index};
+ghost use Rattle.std.specs.Prelude.{◌≡◌, ◌/◌, ◌<◌, ◌≤◌, length, slice_index};
 ghost use Rattle.definitions_blocks.specs.Blocks.{block_values, block_at};
+ghost use Rattle.block_core.specs.Counts.{next_count};
 
 use crate::columns::Column;
 use block_core::{BLOCK_LEN, Block, Format, PlaceSource, Steps};
 use std::marker::Model;
 
-/// To decode a block costs about as much as to pick one value of so many, if they are spread evenly.
+/// If one value in so many is asked for, picking them costs about as much as decoding the block.
 const SPARSE: u64 = 16;
 
-/// How many values are picked from a block at least before it is decoded.
+/// The minimum of values that are picked from a block before it is decoded.
 const MIN_PICKS: u64 = 8;
 
 /// Looks values of a column up by their places, in any order. A value of a `plain` column is read where it stands. In any other
-/// format it holds one block: while places stay in a block that is decoded it is decoded once, and where a value can be picked
-/// from the bytes, a block is decoded only once many were.
+/// format the block that was decoded last is held, and its values are read there. If the format lets single values be picked
+/// from the bytes, a block is decoded only after many of its values were picked.
 #[derive(Drop)]
 pub struct Gather<'a, const L: usize> {
     column: &'a Column,
@@ -51,8 +52,8 @@ impl<'a, const L: usize> Gather<'a, L> {
         }
     }
 
-    /// The value at a place whose block is not held. It stands apart so that a look-up in the block that is held, or in a plain
-    /// column, stays short.
+    /// The value at a place whose block is not held. It is a call of its own, so that a look-up in the block that is held, or in a
+    /// plain column, stays short.
     #[inline(never)]
     fn find(&mut self, place: u64) -> u64
         requires { place < length self.old }
@@ -108,7 +109,14 @@ impl<'a, const L: usize> PlaceSource for Gather<'a, L> {
         self.column.count()
     }
 
-    fn value_at<G>(&mut self, place: u64, steps: &mut Steps<G>) -> u64 {
+    fn value_at<G>(&mut self, place: u64, steps: &mut Steps<G>) -> u64
+        requires { place < length self.old }
+        ensures value { result ≡ slice_index self.old place }
+        ensures list { self.new ≡ self.old }
+        ensures counted { steps.new ≡ next_count steps.old }
+        ensures later { steps.old ≤ steps.new }
+        ensures steps { steps.new ≤ next_count steps.old }
+    {
         steps.tick();
         let number = place / BLOCK_LEN as u64;
         let offset = place % BLOCK_LEN as u64;

@@ -1,6 +1,6 @@
-//! Columns in their formats, as bytes and as lists.
+//! Columns in all formats, as lists and as the bytes of files.
 //!
-//! A column file is the one encoding of a list of 64-bit numbers in a format.
+//! A list of 64-bit numbers has one file in each format. So a column is its file, and callers see it as a format and a list.
 #![tactic(auto)]
 
 mod block_heads;
@@ -11,6 +11,7 @@ mod cursors;
 mod encodings;
 mod gathers;
 mod heads;
+mod laws;
 mod words;
 
 pub use blocks::{block_len, check_block, decode_block, encode_block};
@@ -18,4 +19,5 @@ pub use builders::{Builder, encode_list};
 pub use columns::Column;
 pub use cursors::Cursor;
 pub use gathers::Gather;
-pub use heads::{HEAD_LEN, head_bytes};
+pub use heads::{HEAD_LEN, Head, head_bytes, read_head};
+pub use laws::{has_file, one_column, one_file};

@@ -12,7 +12,8 @@ use Rattle.definitions_blocks.proofs.BlockLaws.{BlockOf-full}
 use Rattle.definitions_columns.proofs.ColumnFileLaws.{length-piece_values}
 use Rattle.definitions_columns.proofs.PieceLaws.{ArePieces-push, piece_values-push, piece_bytes-push, starts_from-push}
 use Rattle.definitions_columns.proofs.FaultLaws.{next_width, static_width_of-push, pieces_words, opening_values, file_of_opening, HasFileFault-none, HasFileFault-one}
-use Rattle.column_file.specs.Reading.{BeginsWithHead, ReadSo}
+use Rattle.column_core.specs.Heads.{BeginsWithHead}
+use Rattle.column_file.specs.Reading.{ReadSo}
 use Rattle.column_file.specs.Faults.{fault_of, Says}
 use Rattle.column_file.specs.declared.reading.ColumnError.{ColumnError}
 use Rattle.column_file.specs.declared.reading.ColumnError.TheVariants as error

@@ -1,10 +1,9 @@
-//! Column files: bytes are a column exactly where they are its one file.
+//! Reading column files: bytes are accepted exactly if they are the file of some column.
 //!
-//! The reader goes over the bytes once, block by block, and keeps nothing but where each block starts. Every refusal names
-//! the first fault.
+//! The reader goes over the bytes once, block by block, and keeps only where each block starts. Each refusal names the first
+//! fault.
 #![tactic(auto)]
 
-mod heads;
 mod reading;
 
 pub use reading::{ColumnError, read_column};

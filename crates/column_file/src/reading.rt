@@ -11,26 +11,26 @@ ghost use Rattle.definitions_blocks.specs.Encodings.{width_of};
 ghost use Rattle.definitions_columns.proofs.FaultLaws.{next_width};
 ghost use Rattle.block_core.specs.Formats.{format_of};
 ghost use Rattle.column_core.specs.Columns.{shape};
-ghost use Rattle.column_file.specs.Reading.{BeginsWithHead, ReadSo};
+ghost use Rattle.column_core.specs.Heads.{BeginsWithHead};
+ghost use Rattle.column_file.specs.Reading.{ReadSo};
 ghost use Rattle.column_file.specs.Faults.{fault_of, Says};
 
-use crate::heads::{Head, read_head};
 use block_core::{BLOCK_LEN, Block, Format};
-use column_core::{Column, HEAD_LEN, check_block, decode_block};
+use column_core::{Column, HEAD_LEN, Head, check_block, decode_block, read_head};
 use std::alloc::{AllocError, Global};
 use stream_core::{Bytes, List};
 
-/// Why bytes are no column file, the first that applies, in this order.
+/// Why bytes are no column file: the first that applies, in this order.
 #[derive(Clone, Copy, Debug, PartialEq, Eq)]
 pub enum ColumnError {
-    /// The first 16 bytes are no head: another word or version, a tag above 7, a width that the format can't have, a byte
-    /// that is not 0, or a count above 268,435,456.
+    /// The first 16 bytes are no head: there are fewer, they begin with another word or version, the tag is above 7, the
+    /// format can't have the width, the last byte before the count is not 0, or the count is above 268,435,456.
     BadHeader,
-    /// The blocks before this one, from 0, are good, and no block of the format follows.
+    /// The blocks before this one are good, and no block of the format follows them. Blocks are numbered from 0.
     BadBlock { block: u64 },
-    /// All blocks are good, and the width in the head is not the least that holds their values.
+    /// All blocks are good, but the width in the head is not the least that holds their values.
     BadWidth,
-    /// The rest is shorter or longer than the tail's words.
+    /// All blocks and the width are good, but the rest is shorter or longer than the words of the values that are left.
     BadTail,
     /// Memory was refused.
     Memory,
@@ -47,12 +47,13 @@ impl From<AllocError> for ColumnError {
     }
 }
 
-/// The column whose file the bytes are. The file is read once and kept as it is; beside it, 8 bytes for each block are taken.
+/// The column whose file the bytes are. They are read once and kept as they are; beside them 8 bytes for each whole block are
+/// taken.
 pub fn read_column(alloc: Global, bytes: Bytes) -> Result<Column, ColumnError>
     ensures column { IfOk result (λ column. IsColumnFile (format_of column.format) column.values bytes) }
     ensures fault { IfErr result (Says bytes) }
 
-    // A file of a column is accepted as that column, and bytes with a fault are refused for it, unless memory runs out.
+    // Unless memory runs out, a column's file is accepted as that column, and bytes with a fault are refused for it.
     ensures accepts { (format : Format) (values : Items ℕ) → IsColumnFile (format_of format) values bytes →
         MatchResult result (λ column. column ≡ shape format values) (λ error. error ≡ ColumnError.Memory) }
     ensures refuses { (fault : FileFault) → HasFileFault bytes fault →
@@ -75,7 +76,7 @@ fn starts_of(alloc: Global, bytes: &[u8]) -> Result<Vec<u64>, ColumnError>
         None => return Err(ColumnError::BadHeader),
     };
     let found = read_blocks(alloc, head, bytes)?;
-    if found.widest != head.width {
+    if found.widest != head.static_width {
         return Err(ColumnError::BadWidth);
     }
     if (bytes.len() - found.end) as u64 != 8 * (head.count % BLOCK_LEN as u64) {
@@ -94,8 +95,8 @@ struct Blocks {
 
 /// Reads all blocks that the head tells of.
 fn read_blocks(alloc: Global, head: Head, bytes: &[u8]) -> Result<Blocks, ColumnError>
-    requires { BeginsWithHead (format_of head.format) head.width head.count bytes.now }
-    ensures ok { IfOk result (λ found. ReadSo (format_of head.format) head.width head.count (head.count / block_values)
+    requires { BeginsWithHead (format_of head.format) head.static_width head.count bytes.now }
+    ensures ok { IfOk result (λ found. ReadSo (format_of head.format) head.static_width head.count (head.count / block_values)
         found.end found.widest bytes.now found.starts.items) }
     ensures fault { IfErr result (Says bytes.now) }
 {
@@ -106,7 +107,7 @@ fn read_blocks(alloc: Global, head: Head, bytes: &[u8]) -> Result<Blocks, Column
     let mut widest = 0;
     for block in 0..blocks {
         let rest = rest_from(bytes, end);
-        match check_block(head.format, head.width, rest) {
+        match check_block(head.format, head.static_width, rest) {
             Some(len) => {
                 note(&mut starts, end)?;
                 widest = widened(head, widest, part(rest, len), &mut scratch);
@@ -122,20 +123,20 @@ fn read_blocks(alloc: Global, head: Head, bytes: &[u8]) -> Result<Blocks, Column
     })
 }
 
-/// The least width that holds the blocks so far and this one. Only in the format `static`, and until the width in the head is
-/// reached, is a block opened for it.
+/// The least width that holds the blocks so far and this one. A block is decoded for it only in the format `static`, and only
+/// until the width in the head is reached.
 fn widened(head: Head, widest: u8, bytes: &[u8], scratch: &mut Block) -> u8
-    requires encoded { (values : Items ℕ) × BlockOf (format_of head.format) head.width values bytes.now }
-    ensures { (values : Items ℕ) → BlockOf (format_of head.format) head.width values bytes.now →
+    requires encoded { (values : Items ℕ) × BlockOf (format_of head.format) head.static_width values bytes.now }
+    ensures { (values : Items ℕ) → BlockOf (format_of head.format) head.static_width values bytes.now →
         result ≡ next_width (format_of head.format) widest values }
 {
     match head.format {
-        Format::Static => widened_static(head.width, widest, bytes, scratch),
+        Format::Static => widened_static(head.static_width, widest, bytes, scratch),
         _ => widest,
     }
 }
 
-/// The same in the format `static`.
+/// The least width that holds the blocks so far and this one, in the format `static`.
 fn widened_static(width: u8, widest: u8, bytes: &[u8], scratch: &mut Block) -> u8
     requires encoded { (values : Items ℕ) × IsPacked width values bytes.now }
     ensures { (values : Items ℕ) → IsPacked width values bytes.now → result ≡ max widest (width_of values) }

@@ -1,37 +1,84 @@
 -- The least width of a column is one that its format can have, and the whole blocks fit it.
-use Rattle.std.proofs.Common.{◌≡◌, ℕ, ◌*◌, ◌/◌, true, List, length, drop, refl, sym, subst}
-use Rattle.std.proofs.lemmas.List.{take-append-drop}
+use Rattle.std.proofs.Common.{◌≡◌, ℕ, ◌+◌, ◌-◌, ◌*◌, ◌/◌, ◌≤◌, Bool, true, false, if◌then◌else◌, List, ◌++◌, length, take, drop, refl, sym, ap, ◌∙◌, subst, arith, length-append}
+use Rattle.std.proofs.lemmas.List.{take-append-drop, take-append-le, take-take, drop-take}
 use Rattle.definitions_blocks.specs.Blocks.{block_values}
-use Rattle.definitions_blocks.specs.Packed.{AreBelow, IsWidth}
-use Rattle.definitions_blocks.specs.Encodings.{width_of}
-use Rattle.definitions_blocks.specs.Formats.{Format, plain, static, dynamic, runs, delta1_dynamic, delta16_dynamic, reference_dynamic, delta1_runs, IsColumnWidth}
+use Rattle.definitions_blocks.specs.Packed.{AreBelow}
+use Rattle.definitions_blocks.specs.Encodings.{width_of, fits_width}
+use Rattle.definitions_blocks.specs.Formats.{Format, has_static_width, IsWidthWhere, IsColumnWidth, FitsWhere, FitsFormat}
 use Rattle.definitions_columns.specs.ColumnFiles.{whole_blocks, static_width_of, fits_columns}
-use Rattle.definitions_blocks.proofs.PackedLaws.{AreBelow-front}
-use Rattle.definitions_blocks.proofs.EncodingLaws.{IsWidth-width_of, width_of-narrow, fits_from_AreBelow}
+use Rattle.definitions_blocks.proofs.PackedLaws.{AreBelow-front, AreBelow-rest}
+use Rattle.definitions_blocks.proofs.EncodingLaws.{IsWidth-width_of, width_of-narrow, fits_from_AreBelow, AreBelow-from_fits}
 
 pub whole_below : (width : ℕ) (values : List ℕ) → AreBelow width values → AreBelow width (whole_blocks values)
 whole_below width values small =
     let rest = drop (length values / block_values * block_values) values in
     AreBelow-front width (whole_blocks values) rest (subst (AreBelow width) (sym (take-append-drop (length values / block_values * block_values) values)) small)
 
+-- By whether the column has a static width.
+
+lawful_where : (packed : Bool) (values : List ℕ) → AreBelow 64 values → IsWidthWhere packed (if packed then width_of (whole_blocks values) else 0)
+lawful_where true values small = width_of-narrow (whole_blocks values) (whole_below 64 values small)
+lawful_where false values small = refl
+
 pub static_width_of-lawful : (format : Format) (values : List ℕ) → AreBelow 64 values → IsColumnWidth format (static_width_of format values)
-static_width_of-lawful plain values small = refl
-static_width_of-lawful static values small = width_of-narrow (whole_blocks values) (whole_below 64 values small)
-static_width_of-lawful dynamic values small = refl
-static_width_of-lawful runs values small = refl
-static_width_of-lawful delta1_dynamic values small = refl
-static_width_of-lawful delta16_dynamic values small = refl
-static_width_of-lawful reference_dynamic values small = refl
-static_width_of-lawful delta1_runs values small = refl
+static_width_of-lawful format values small = lawful_where (has_static_width format) values small
+
+holds_where : (packed : Bool) (values : List ℕ) → AreBelow 64 values → FitsWhere packed (if packed then width_of (whole_blocks values) else 0) (whole_blocks values)
+holds_where true values small = (IsWidth-width_of (whole_blocks values) (whole_below 64 values small)).holds
+holds_where false values small = tt
+
+pub static_width_of-holds : (format : Format) (values : List ℕ) → AreBelow 64 values → FitsFormat format (static_width_of format values) (whole_blocks values)
+static_width_of-holds format values small = holds_where (has_static_width format) values small
+
+fits_where : (packed : Bool) (width : ℕ) (values : List ℕ) → FitsWhere packed width (whole_blocks values) → (if packed then fits_width (whole_blocks values) width else true) ≡ true
+fits_where true width values holds = fits_from_AreBelow width (whole_blocks values) holds
+fits_where false width values holds = refl
 
 pub static_width_of-fits : (format : Format) (values : List ℕ) → AreBelow 64 values → fits_columns format (static_width_of format values) values ≡ true
-static_width_of-fits plain values small = refl
-static_width_of-fits static values small =
-    let is : IsWidth (width_of (whole_blocks values)) (whole_blocks values) = IsWidth-width_of (whole_blocks values) (whole_below 64 values small) in
-    fits_from_AreBelow (width_of (whole_blocks values)) (whole_blocks values) is.holds
-static_width_of-fits dynamic values small = refl
-static_width_of-fits runs values small = refl
-static_width_of-fits delta1_dynamic values small = refl
-static_width_of-fits delta16_dynamic values small = refl
-static_width_of-fits reference_dynamic values small = refl
-static_width_of-fits delta1_runs values small = refl
+static_width_of-fits format values small = fits_where (has_static_width format) (static_width_of format values) values (static_width_of-holds format values small)
+
+-- Where a list fits the column's width, its parts do.
+
+pub FitsWhere-front : (packed : Bool) (width : ℕ) (values others : List ℕ) → FitsWhere packed width (values ++ others) → FitsWhere packed width values
+FitsWhere-front true width values others fits = AreBelow-front width values others fits
+FitsWhere-front false width values others fits = tt
+
+pub FitsWhere-rest : (packed : Bool) (width : ℕ) (values others : List ℕ) → FitsWhere packed width (values ++ others) → FitsWhere packed width others
+FitsWhere-rest true width values others fits = AreBelow-rest width values others fits
+FitsWhere-rest false width values others fits = tt
+
+-- each block fits the static width
+pub static_width_of-block : (format : Format) (at : ℕ) (values : List ℕ) → at + block_values ≤ length values / block_values * block_values → AreBelow 64 values
+    → FitsFormat format (static_width_of format values) (take block_values (drop at values))
+static_width_of-block format at values inside small =
+    let width = static_width_of format values in
+    let end = length values / block_values * block_values in
+    let rest = end - at in
+    let block = take block_values (drop at values) in
+    let sum : at + rest ≡ end = omega arith in
+    let part : drop at (whole_blocks values) ≡ take rest (drop at values) = ap (λ n. drop at (take n values)) (sym sum) ∙ drop-take at rest values in
+    let first : take block_values (drop at (whole_blocks values)) ≡ block = ap (take block_values) part ∙ take-take block_values rest (drop at values) (omega arith) in
+    let behind = drop block_values (drop at (whole_blocks values)) in
+    let split : block ++ behind ≡ drop at (whole_blocks values) = ap (λ (l : List ℕ). l ++ behind) (sym first) ∙ take-append-drop block_values (drop at (whole_blocks values)) in
+    let all : take at (whole_blocks values) ++ (block ++ behind) ≡ whole_blocks values =
+    ap (λ (l : List ℕ). take at (whole_blocks values) ++ l) split ∙ take-append-drop at (whole_blocks values) in
+    let fits : FitsFormat format width (take at (whole_blocks values) ++ (block ++ behind)) = subst (FitsFormat format width) (sym all) (static_width_of-holds format values small) in
+    FitsWhere-front (has_static_width format) width block behind (FitsWhere-rest (has_static_width format) width (take at (whole_blocks values)) (block ++ behind) fits)
+
+-- the whole blocks of a list are those of a longer one, as far as they go
+whole_blocks-front : (values rest : List ℕ) → whole_blocks values ≡ take (length values / block_values * block_values) (whole_blocks (values ++ rest))
+whole_blocks-front values rest =
+    let end = length values / block_values * block_values in
+    sym (take-take end (length (values ++ rest) / block_values * block_values) (values ++ rest) (omega (arith, length-append values rest)) ∙ take-append-le end values rest (omega arith))
+
+fits_front : (packed : Bool) (width : ℕ) (values rest : List ℕ) → (if packed then fits_width (whole_blocks (values ++ rest)) width else true) ≡ true → (if packed then fits_width (whole_blocks values) width else true) ≡ true
+fits_front true width values rest fits =
+    let end = length values / block_values * block_values in
+    let all = whole_blocks (values ++ rest) in
+    let small : AreBelow width (take end all ++ drop end all) = subst (AreBelow width) (sym (take-append-drop end all)) (AreBelow-from_fits width all fits) in
+    fits_from_AreBelow width (whole_blocks values) (subst (AreBelow width) (sym (whole_blocks-front values rest)) (AreBelow-front width (take end all) (drop end all) small))
+fits_front false width values rest fits = refl
+
+-- where a list fits the column's width, its prefixes do
+pub fits_columns-front : (format : Format) (width : ℕ) (values rest : List ℕ) → fits_columns format width (values ++ rest) ≡ true → fits_columns format width values ≡ true
+fits_columns-front format width values rest fits = fits_front (has_static_width format) width values rest fits

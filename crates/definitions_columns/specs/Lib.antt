@@ -1,3 +1,4 @@
 pub mod ColumnFiles
+pub mod FileLaws
 pub mod FileFaults
 pub mod Sizes

@@ -1,4 +1,4 @@
-use Rattle.std.proofs.Common.{◌≡◌, ◌+◌, ◌*◌, ◌/◌, ◌%◌, ◌^◌, ◌<◌, get_or, ap, ap₂, sym, subst, ◌∙◌, suc, add-one, arith}
+use Rattle.std.proofs.Common.{◌≡◌, ◌+◌, ◌*◌, ◌/◌, ◌%◌, ◌^◌, get_or, ap, ap₂, sym, subst, ◌∙◌, suc, add-one, arith}
 use Rattle.definitions_blocks.specs.Differences.{delta16_of, first_of}
 use Rattle.definitions_blocks.specs.Encodings.{IsDynamicBlock}
 use Rattle.column_core.proofs.BlockLemmas.{inside, before_row, row_value}

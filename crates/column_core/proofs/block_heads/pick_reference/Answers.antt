@@ -1,4 +1,4 @@
-use Rattle.std.proofs.Common.{◌≡◌, ◌+◌, ◌^◌, ◌<◌, get_or, ap₂, sym, subst, ◌∙◌, arith}
+use Rattle.std.proofs.Common.{◌≡◌, ◌^◌, ◌<◌, get_or, sym, subst, ◌∙◌, arith}
 use Rattle.definitions_blocks.specs.Differences.{least_of, reference_of}
 use Rattle.definitions_blocks.specs.Encodings.{IsDynamicBlock}
 use Rattle.definitions_blocks.proofs.DifferenceLaws.{words_at}

@@ -6,7 +6,8 @@ use Rattle.definitions_columns.specs.ColumnFiles.{static_width_of}
 use Rattle.block_core.specs.declared.formats.Format.{Format}
 use Rattle.block_core.specs.Formats.{format_of}
 use Rattle.column_core.specs.Columns.{Encoding, encoding_of, reserve, shape}
-use Rattle.column_core.proofs.BuilderLemmas.{static_width_of-whole, block_fits}
+use Rattle.definitions_columns.proofs.WidthLaws.{static_width_of-block}
+use Rattle.column_core.proofs.BuilderLemmas.{static_width_of-whole}
 use Rattle.definitions_columns.proofs.PieceLaws.{take_blocks}
 use Rattle.column_core.proofs.builders.encode_list.Goals as goal
 
@@ -18,7 +19,7 @@ push_block-requires-clause-fits c =
     let block : c.fill_from.new.block ≡ take block_values (drop at values) = c.fill_from.ensures.same ∙ ap (λ n. take n (drop at values)) size in
     let width : c.least_width-width.result ≡ static_width_of (format_of c.args.format) values =
     c.least_width-width.ensures.width ∙ static_width_of-whole (format_of c.args.format) values in
-    let fits = block_fits (format_of c.args.format) at values (omega (arith, c.loop-number-test.true)) (λ k. (c.type_inv.values k).fits) in
+    let fits = static_width_of-block (format_of c.args.format) at values (omega (arith, c.loop-number-test.true)) (λ k within. (c.type_inv.values k).fits) in
     subst (λ (e : Encoding). FitsFormat (format_of e.format) e.width c.fill_from.new.block) (sym c.loop-number.invariant.encoded)
     (subst (FitsFormat (format_of c.args.format) c.least_width-width.result) (sym block) (subst (λ w. FitsFormat (format_of c.args.format) w (take block_values (drop at values))) (sym width) fits))
 

@@ -1,4 +1,4 @@
-use Rattle.std.proofs.Common.{◌≡◌, ◌≤◌, ◌+◌, ◌%◌, ℕ, List, ◌++◌, [], length, take, drop, true, refl, sym, ap, ap₂, ◌∙◌, subst, arith, length-append, append_assoc}
+use Rattle.std.proofs.Common.{◌≡◌, ◌≤◌, ◌+◌, ℕ, List, ◌++◌, [], length, take, drop, true, sym, ap, ◌∙◌, subst, arith, length-append, append_assoc}
 use Rattle.std.proofs.lemmas.Bool.{false≢true}
 use Rattle.std.proofs.lemmas.List.{append-nil, length-take, take-append-drop}
 use Rattle.definitions_blocks.specs.Blocks.{block_values}
@@ -6,10 +6,10 @@ use Rattle.definitions_blocks.specs.Columns.{max_rows}
 use Rattle.definitions_columns.specs.ColumnFiles.{fits_columns}
 use Rattle.definitions_columns.specs.Sizes.{is_within_room}
 use Rattle.definitions_columns.proofs.SizeLaws.{IsInRoom, in_room, is_within_room-front}
-use Rattle.block_core.specs.declared.formats.Format.{Format}
 use Rattle.block_core.specs.Formats.{format_of}
-use Rattle.column_core.specs.Columns.{Reserve, Encoding, encoding_of}
-use Rattle.column_core.specs.Scopes.{IsBuilding, HoldsOfPrefixes-fits_columns}
+use Rattle.column_core.specs.Columns.{Encoding, encoding_of}
+use Rattle.definitions_columns.proofs.WidthLaws.{fits_columns-front}
+use Rattle.column_core.specs.Scopes.{IsBuilding}
 use Rattle.column_core.proofs.builders.Builder.take_some.Goals as goal
 use Rattle.column_core.proofs.builders.Builder.take_some.Goals.{After-append, then-as_slice-eq-BLOCK_LEN+in_ok-flush, else-as_slice-eq-BLOCK_LEN}
 
@@ -51,7 +51,7 @@ waiting encoded before block values n held few fits room =
       whole = held.building.whole;
       short = omega (arith, length-append block (take n values), length-take n values);
       few = omega (arith, length-append encoded.values (block ++ take n values), length-append block (take n values), length-append encoded.values block, length-take n values);
-      fits = HoldsOfPrefixes-fits_columns (format_of encoded.format) encoded.width front (drop n values) (ap (fits_columns (format_of encoded.format) encoded.width) split ∙ scoped);
+      fits = fits_columns-front (format_of encoded.format) encoded.width front (drop n values) (ap (fits_columns (format_of encoded.format) encoded.width) split ∙ scoped);
     }
 
 held : (c : After-append) → Held c.if-as_slice-eq-BLOCK_LEN.self-inside.encoded c.if-as_slice-eq-BLOCK_LEN.self-inside.block c.args.self.now
