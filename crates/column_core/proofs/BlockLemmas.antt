@@ -1,14 +1,13 @@
--- What a block's encoding begins with, and how long it is.
-use Rattle.std.proofs.Common.{◌≡◌, ℕ, zero, suc, ◌+◌, ◌-◌, ◌*◌, ◌%◌, ◌^◌, ◌<◌, List, length, take, drop, get_or, sym, ap, ◌∙◌, arith, length-append}
-use Rattle.std.specs.Int.{from_le_bytes, w64}
-use Rattle.std.proofs.lemmas.List.{drop_at, get_or-append_right}
+-- How long a block's encoding is, and how one of its values follows from differences.
+use Rattle.std.proofs.Common.{◌≡◌, ℕ, zero, suc, ◌+◌, ◌*◌, ◌%◌, ◌^◌, ◌<◌, List, length, drop, get_or, sym, ap, ◌∙◌, arith, length-append}
+use Rattle.std.proofs.lemmas.List.{drop_at}
 use Rattle.definitions_blocks.specs.Words.{word_bytes}
 use Rattle.definitions_blocks.specs.Blocks.{block_values, IsFull}
 use Rattle.definitions_blocks.specs.Differences.{delta16_of, first_of, least_of, reference_of}
 use Rattle.definitions_blocks.specs.Encodings.{IsCascade}
 use Rattle.definitions_blocks.specs.Formats.{Format, BlockOf}
 use Rattle.definitions_blocks.proofs.WordLaws.{length-word_bytes}
-use Rattle.definitions_blocks.proofs.BlockLaws.{BlockOf-short, IsCascade-base}
+use Rattle.definitions_blocks.proofs.BlockLaws.{BlockOf-short}
 use Rattle.definitions_blocks.proofs.DifferenceLaws.{delta16_of-early, delta16_of-late, first_of-word, least_of-le, reference_of-at, words_at}
 
 -- an encoding is short
@@ -17,10 +16,8 @@ sized format width values s = (s.0, omega (arith, BlockOf-short format width val
 
 -- what stands behind the base of a cascade
 pub record Inside (base_of : List ℕ → ℕ) (differences_of : List ℕ → List ℕ) (values bytes inner : List ℕ) : Type 0 where
-  pub base : from_le_bytes w64 (take 8 bytes) ≡ base_of values
   pub rest : drop 8 bytes ≡ inner
   pub size : length bytes ≡ 8 + length inner
-  pub cell : (i : ℕ) → get_or bytes (8 + i) 0 ≡ get_or inner i 0
 
 pub inside : (base_of : List ℕ → ℕ) (differences_of : List ℕ → List ℕ) (encodes : List ℕ → List ℕ → Type 0) (values bytes : List ℕ)
     → (is : IsCascade base_of differences_of encodes values bytes) → Inside base_of differences_of values bytes is.inner
@@ -28,10 +25,8 @@ inside base_of differences_of encodes values bytes is =
     let word = word_bytes (base_of values) in
     let long : length word ≡ 8 = length-word_bytes (base_of values) in
     record {
-      base = IsCascade-base base_of differences_of encodes values bytes is;
       rest = ap (drop 8) is.encoded ∙ drop_at word is.inner 8 long;
       size = omega (arith, ap length is.encoded, length-append word is.inner, long);
-      cell = λ i. ap (λ l. get_or l (8 + i) 0) is.encoded ∙ get_or-append_right word is.inner 8 (8 + i) 0 long (omega arith) ∙ (let e : 8 + i - 8 ≡ i = omega arith in ap (λ n. get_or is.inner n 0) e);
     }
 
 -- a value is the least one and its difference to it

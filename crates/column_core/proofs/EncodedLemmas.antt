@@ -1,13 +1,11 @@
 -- The list of an encoding is the one that its bytes encode, and where its blocks stand.
-use Rattle.std.proofs.Common.{◌≡◌, ℕ, zero, suc, ◌+◌, ◌-◌, ◌*◌, ◌/◌, ◌%◌, ◌^◌, ◌<◌, ◌≤◌, List, [], ◌∷◌, ◌++◌, length, take, drop, get_or, Result, Ok, Err, OnErr, refl, sym, ap, ap₂, ◌∙◌, subst, inl, inr, arith, length-append}
-use Rattle.std.specs.Simd.{first_chunks}
+use Rattle.std.proofs.Common.{◌≡◌, ℕ, ◌+◌, ◌-◌, ◌*◌, ◌/◌, ◌%◌, ◌^◌, ◌<◌, ◌≤◌, List, [], ◌∷◌, ◌++◌, length, take, drop, get_or, Result, Ok, Err, OnErr, sym, ap, ap₂, ◌∙◌, subst, inl, inr, arith, length-append}
 use Rattle.std.proofs.lemmas.Bool.{cases_lt}
-use Rattle.std.proofs.lemmas.List.{take_at, drop_at, length-take, length-drop, get_or-take, get_or-drop}
-use Rattle.definitions_blocks.proofs.WordLaws.{length-word_bytes}
+use Rattle.std.proofs.lemmas.List.{length-take, length-drop, get_or-take, get_or-drop}
 use Rattle.definitions_blocks.specs.Blocks.{block_values, block_at}
 use Rattle.definitions_blocks.specs.Columns.{max_rows}
 use Rattle.definitions_columns.specs.ColumnFiles.{column_head, IsEncoded, IsIndexed}
-use Rattle.definitions_blocks.specs.Words.{word_bytes, words_of}
+use Rattle.definitions_blocks.specs.Words.{words_of}
 use Rattle.definitions_blocks.specs.Formats as columns
 use Rattle.definitions_blocks.specs.Formats.{BlockOf}
 use Rattle.definitions_columns.proofs.PieceLaws.{with_count, encoded_size, IsIndexed-empty, IsIndexed-push, IsIndexed-tail, BlockPlace, block_place, counts}
@@ -107,18 +105,6 @@ head_fits format width values bytes starts is = omega (arith, encoded_size (form
 pub on_err : {T E P : Type 0} → (r : Result T E) → P → OnErr r P
 on_err (Ok value) p = tt
 on_err (Err refused) p = p
-
-pub length-first_chunks : (size count : ℕ) (bytes : List ℕ) → length (first_chunks size count bytes) ≡ count
-length-first_chunks size zero bytes = refl
-length-first_chunks size (suc count) bytes = ap suc (length-first_chunks size count (drop size bytes))
-
--- the chunks of a list's words are the words
-pub chunks_of_words : (values : List ℕ) (place : ℕ) (other : List ℕ) → place < length values → get_or (first_chunks 8 (length values) (words_of values)) place other ≡ word_bytes (get_or values place 0)
-chunks_of_words [] place other within = absurd (omega arith)
-chunks_of_words (value ∷ values) zero other within = take_at (word_bytes value) (words_of values) 8 (length-word_bytes value)
-chunks_of_words (value ∷ values) (suc place) other within =
-    let rest : drop 8 (words_of (value ∷ values)) ≡ words_of values = drop_at (word_bytes value) (words_of values) 8 (length-word_bytes value) in
-    ap (λ l. get_or (first_chunks 8 (length values) l) place other) rest ∙ chunks_of_words values place other (omega arith)
 
 -- A whole block of a list, and its values.
 pub length-block_at : (values : List ℕ) (number : ℕ) → number < length values / block_values → length (block_at values number) ≡ block_values

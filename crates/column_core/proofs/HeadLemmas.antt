@@ -3,7 +3,7 @@ use Rattle.std.proofs.Common.{◌≡◌, ℕ, ◌≤◌, List, [], ◌++◌, len
 use Rattle.std.specs.Int.{from_le_bytes, w64}
 use Rattle.std.proofs.lemmas.List.{take_at, drop_at, append-nil}
 use Rattle.definitions_columns.specs.ColumnFiles.{column_head, static_width_of, piece_bytes, IsEncoded, IsColumnFile}
-use Rattle.definitions_blocks.specs.Words.{word_bytes, words_of}
+use Rattle.definitions_blocks.specs.Words.{word_bytes, word_of, words_of}
 use Rattle.definitions_blocks.specs.Formats as columns
 use Rattle.definitions_blocks.specs.Formats.{IsColumnWidth}
 use Rattle.definitions_columns.specs.FileFaults.{IsHead}
@@ -41,10 +41,11 @@ pub record Shows (f : columns.Format) (width count : ℕ) (bytes : List ℕ) : T
   pub taken : take 16 bytes ≡ column_head (columns.tag_of f) width count
   pub tag : get_or (take 16 bytes) 5 0 ≡ columns.tag_of f
   pub widths : get_or (take 16 bytes) 6 0 ≡ width
-  pub counts : from_le_bytes w64 (take 8 (drop 8 (take 16 bytes))) ≡ count
+  pub counts : word_of (take 16 bytes) 1 ≡ count
   pub long : 16 ≤ length bytes
 
 pub shows : (f : columns.Format) (width count : ℕ) (bytes rest : List ℕ) → IsHead f width count → bytes ≡ column_head (columns.tag_of f) width count ++ rest → Shows f width count bytes
+unfolding word_of
 shows f width count bytes rest head e =
     let front = column_head (columns.tag_of f) width count in
     let taken : take 16 bytes ≡ front = ap (take 16) e ∙ take_at front rest 16 (length-column_head (columns.tag_of f) width count) in
@@ -64,7 +65,7 @@ pub record Asks (found : Format) (width count : ℕ) (bytes : List ℕ) : Type 0
   pub taken : take 16 bytes ≡ column_head (tag_of found) width count
 
 pub asks : (f : columns.Format) (width count : ℕ) (bytes rest : List ℕ) (found : Format) (wide counted : ℕ) → IsHead f width count → bytes ≡ column_head (columns.tag_of f) width count ++ rest
-    → tag_of found ≡ get_or (take 16 bytes) 5 0 → wide ≡ get_or (take 16 bytes) 6 0 → counted ≡ from_le_bytes w64 (take 8 (drop 8 (take 16 bytes))) → Asks found wide counted bytes
+    → tag_of found ≡ get_or (take 16 bytes) 5 0 → wide ≡ get_or (take 16 bytes) 6 0 → counted ≡ word_of (take 16 bytes) 1 → Asks found wide counted bytes
 asks f width count bytes rest found wide counted head e tags widths counts =
     let at = shows f width count bytes rest head e in
     let format : f ≡ format_of found = sym (tag_of-one (format_of found) f (tags ∙ at.tag)) in

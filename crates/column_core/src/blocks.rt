@@ -7,10 +7,7 @@ ghost use Rattle.definitions_blocks.specs.Formats.{BlockOf, IsColumnWidth, Lacks
 ghost use Rattle.block_core.specs.Formats.{format_of};
 ghost use Rattle.definitions_blocks.specs.Packings.{NoBlock};
 
-use crate::block_heads::{
-    decode_delta_dynamic, decode_delta_runs, decode_dynamic, decode_runs, pick_delta16,
-    pick_dynamic, pick_reference,
-};
+use crate::picks::{pick_delta16, pick_dynamic, pick_reference};
 use block_core::{Block, Format, Packing};
 use block_formats::{Dynamic, Static, Words};
 use cascade_formats::{Cascade, Delta1, Delta16, Reference};
@@ -80,14 +77,14 @@ pub fn decode_block<const L: usize>(
     ensures { BlockOf (format_of format) static_width into.new bytes.now }
 {
     match format {
-        Format::Plain => Words::decode((), (), bytes, into),
-        Format::Static => Static::<L>::decode(static_width, (), bytes, into),
-        Format::Dynamic => decode_dynamic::<L>(bytes, into),
-        Format::Runs => decode_runs(bytes, into),
-        Format::Delta1Dynamic => decode_delta_dynamic::<Delta1<L>, L>(bytes, into),
-        Format::Delta16Dynamic => decode_delta_dynamic::<Delta16<L>, L>(bytes, into),
-        Format::ReferenceDynamic => decode_delta_dynamic::<Reference<L>, L>(bytes, into),
-        Format::Delta1Runs => decode_delta_runs::<Delta1<L>>(bytes, into),
+        Format::Plain => decode::<Words>((), bytes, into),
+        Format::Static => decode::<Static<L>>(static_width, bytes, into),
+        Format::Dynamic => decode::<Dynamic<L>>((), bytes, into),
+        Format::Runs => decode::<Runs>((), bytes, into),
+        Format::Delta1Dynamic => decode::<Cascade<Delta1<L>, Dynamic<L>>>((), bytes, into),
+        Format::Delta16Dynamic => decode::<Cascade<Delta16<L>, Dynamic<L>>>((), bytes, into),
+        Format::ReferenceDynamic => decode::<Cascade<Reference<L>, Dynamic<L>>>((), bytes, into),
+        Format::Delta1Runs => decode::<Cascade<Delta1<L>, Runs>>((), bytes, into),
     }
 }
 
@@ -162,6 +159,13 @@ fn encode<P: Packing>(param: P::Param, full: &Block, into: &mut [u8])
     ensures { P.encodes param full.now into.new }
 {
     P::encode(param, P::head_of(param, full), full, into);
+}
+
+fn decode<P: Packing>(param: P::Param, bytes: &[u8], into: &mut Block)
+    requires { (values : List ℕ) × P.encodes param values bytes.now }
+    ensures { P.encodes param into.new bytes.now }
+{
+    P::decode(param, P::head_in(param, bytes), bytes, into);
 }
 
 fn append<P: Packing>(param: P::Param, full: &Block, bytes: &mut Vec<u8>) -> Result<(), AllocError>

@@ -12,7 +12,7 @@ ghost use Rattle.column_core.specs.Columns.{shape};
 use crate::blocks::{decode_block, pick_value};
 use crate::encodings::Encoded;
 use crate::heads::{HEAD_LEN, head_of};
-use crate::words::{push_words, word_at};
+use crate::words::{number_at, push_words};
 use block_core::{BLOCK_LEN, Block, Format};
 use std::marker::Model;
 use stream_core::{Bytes, List};
@@ -104,7 +104,7 @@ impl Column {
         requires { place < length self.now.values % block_values }
         ensures { result ≡ slice_index self.now.values (length self.now.values / block_values * block_values + place) }
     {
-        word_at(self.encoded.tail_bytes(), place as usize)
+        number_at(self.encoded.tail_bytes(), place as usize)
     }
 
     /// Leaves the values of a block in `into`. The last block may be the tail, which is not whole.
@@ -127,7 +127,7 @@ impl Column {
         requires within { place < length self.now.values }
         ensures { result ≡ slice_index self.now.values place }
     {
-        word_at(words_in(self.encoded.bytes()), place as usize)
+        number_at(words_in(self.encoded.bytes()), place as usize)
     }
 
     /// A value of a whole block, which is not decoded for it. There is none in the formats that give no value cheaper than all.

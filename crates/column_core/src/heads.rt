@@ -1,7 +1,6 @@
 //! The head of a column file, as it is written and as it is read.
 
-ghost use Rattle.std.specs.Prelude.{◌≡◌, ◌+◌, ◌≤◌, ◌↔◌, ℕ, List, length, take, drop, IsTrue, MatchOption};
-ghost use Rattle.std.specs.Int.{from_le_bytes, w64};
+ghost use Rattle.std.specs.Prelude.{◌≡◌, ◌≤◌, ◌↔◌, ℕ, List, length, IsTrue, MatchOption};
 ghost use Rattle.std.specs.Vec.{vec_capacity};
 ghost use Rattle.definitions_columns.specs.ColumnFiles.{column_head, IsColumnFile, static_width_of};
 ghost use Rattle.definitions_columns.specs.FileFaults.{IsHead};
@@ -11,6 +10,7 @@ ghost use Rattle.column_core.specs.Heads.{LacksHead, BeginsWithHead};
 
 use crate::words::word_bytes_of;
 use block_core::{Format, MAX_ROWS};
+use strand_pack::{MAX_WIDTH, word_at};
 
 /// How many bytes stand before the first block of a column file.
 pub const HEAD_LEN: usize = 16;
@@ -23,9 +23,6 @@ const WIDTH_AT: usize = 6;
 
 /// Where a head says in 8 bytes how many values there are.
 const COUNT_AT: usize = 8;
-
-/// The width of a 64-bit number.
-const MAX_WIDTH: u8 = 64;
 
 /// What a head tells of its column.
 #[derive(Clone, Copy)]
@@ -64,7 +61,7 @@ pub fn read_head(bytes: &[u8]) -> Option<Head>
     let head = Head {
         format,
         static_width: found[WIDTH_AT],
-        count: count_in(found),
+        count: word_at(found, COUNT_AT / 8),
     };
     if is_lawful(head) && is_head(found, head) {
         Some(head)
@@ -89,15 +86,6 @@ fn is_head(found: &[u8], head: Head) -> bool
     ensures { IsTrue result ↔ (found.now ≡ column_head (tag_of head.format) head.static_width head.count) }
 {
     found == &head_bytes(head.format, head.static_width, head.count)[..]
-}
-
-/// The count in a head.
-fn count_in(head: &[u8]) -> u64
-    requires { 16 ≤ length head.now }
-    ensures { result ≡ from_le_bytes w64 (take 8 (drop 8 head.now)) }
-{
-    let (words, _) = head.as_chunks::<8>();
-    u64::from_le_bytes(words[COUNT_AT / 8])
 }
 
 /// The head of a column's file.

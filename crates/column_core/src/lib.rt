@@ -3,7 +3,6 @@
 //! A list of 64-bit numbers has one file in each format. So a column is its file, and callers see it as a format and a list.
 #![tactic(auto)]
 
-mod block_heads;
 mod blocks;
 mod builders;
 mod columns;
@@ -12,6 +11,7 @@ mod encodings;
 mod gathers;
 mod heads;
 mod laws;
+mod picks;
 mod words;
 
 pub use blocks::{block_len, check_block, decode_block, encode_block};

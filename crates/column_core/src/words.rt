@@ -32,12 +32,11 @@ pub fn append_words(bytes: &mut Vec<u8>, values: &[u64]) -> Result<(), AllocErro
 }
 
 /// The number at a place of the words of some values.
-pub fn word_at(words: &[u8], place: usize) -> u64
+pub fn number_at(words: &[u8], place: usize) -> u64
     requires { (values : Items ℕ) × AllByRecursion IsWord values × (words.now ≡ words_of values) × (place < length values) }
     ensures { (values : Items ℕ) → AllByRecursion IsWord values → words.now ≡ words_of values → result ≡ slice_index values place }
 {
-    let (words, _) = words.as_chunks::<8>();
-    u64::from_le_bytes(words[place])
+    strand_pack::word_at(words, place)
 }
 
 /// Appends the numbers of words to an empty block.
@@ -47,6 +46,6 @@ pub fn push_words(words: &[u8], into: &mut Block)
     ensures { (values : Items ℕ) → AllByRecursion IsWord values → words.now ≡ words_of values → into.new ≡ values }
 {
     for place in 0..words.len() / 8 {
-        into.push(word_at(words, place));
+        into.push(number_at(words, place));
     }
 }

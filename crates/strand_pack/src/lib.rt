@@ -15,4 +15,4 @@ pub use packing::pack;
 pub use picking::pick;
 pub use unpacking::unpack;
 pub use widths::{MAX_WIDTH, is_least_width, packed_len, width_of, width_of_values};
-pub use words::put_word;
+pub use words::{put_word, word_at};

@@ -15,7 +15,7 @@ returns-in-None c = λ f width count rest head e.
 
 pub returns-else-is_lawful : goal.returns-else-is_lawful
 returns-else-is_lawful c = λ f width count rest head e.
-    let is = asks f width count c.args.bytes.now rest c.in-Some.format (get_or (take 16 c.args.bytes.now) 6 0) c.count_in.result head e c.in-Some.ensures refl c.count_in.ensures in
+    let is = asks f width count c.args.bytes.now rest c.in-Some.format (get_or (take 16 c.args.bytes.now) 6 0) c.word_at.result head e c.in-Some.ensures refl c.word_at.ensures in
     let lawful = c.is_lawful.ensures.1 is.head in
     elim c.else-is_lawful.branch [
       | else-is_lawful-via-then-is_lawful+else-is_head w ↦ let same = w.is_head.ensures.1 is.taken in cc (same, w.if-is_head.false)

@@ -21,8 +21,8 @@ words_in-requires c = omega (arith, encoded_size plain c.self.inside.encoded.wid
 words : (c : goal.After-words_in) → c.words_in.result.now ≡ words_of c.args.self.now.values
 words c = c.words_in.ensures ∙ plain_words c.self.inside.encoded.width c.args.self.now.values c.bytes.result.now (file c.before)
 
-pub word_at-requires : goal.word_at-requires
-word_at-requires c = (c.args.self.now.values, (file c.before).column.words, words c, c.requires.within)
+pub number_at-requires : goal.number_at-requires
+number_at-requires c = (c.args.self.now.values, (file c.before).column.words, words c, c.requires.within)
 
 pub returns : goal.returns
-returns c = c.word_at.ensures c.args.self.now.values (file c.before.before).column.words (words c.before)
+returns c = c.number_at.ensures c.args.self.now.values (file c.before.before).column.words (words c.before)

@@ -2,20 +2,15 @@ use Rattle.std.proofs.Common.{◌≡◌, ◌+◌, ◌*◌, ◌/◌, ◌%◌, ◌
 use Rattle.definitions_blocks.specs.Differences.{delta16_of, first_of}
 use Rattle.definitions_blocks.specs.Encodings.{IsDynamicBlock}
 use Rattle.column_core.proofs.BlockLemmas.{inside, before_row, row_value}
-use Rattle.column_core.proofs.block_heads.pick_delta16.Goals as goal
+use Rattle.column_core.proofs.picks.pick_delta16.Goals as goal
 
 pub differences_in-differences-requires : goal.differences_in-differences-requires
 differences_in-differences-requires c =
     let parts = inside first_of delta16_of IsDynamicBlock c.requires.encoded.0 c.args.bytes.now c.requires.encoded.1 in
     omega (arith, parts.size)
 
-pub base_of-value-requires : goal.base_of-value-requires
-base_of-value-requires c =
-    let parts = inside first_of delta16_of IsDynamicBlock c.requires.encoded.0 c.args.bytes.now c.requires.encoded.1 in
-    omega (arith, parts.size)
-
 pub loop-row-init : goal.loop-row-init
-loop-row-init c = λ values is. c.base_of-value.ensures ∙ (inside first_of delta16_of IsDynamicBlock values c.args.bytes.now is).base
+loop-row-init c = λ values is. ap (λ head. head.0) (c.head_in-base.ensures values is)
 
 pub pick_dynamic-difference-requires-clause-encoded : goal.pick_dynamic-difference-requires-clause-encoded
 pick_dynamic-difference-requires-clause-encoded c =
