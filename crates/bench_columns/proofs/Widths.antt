@@ -6,7 +6,7 @@ use Rattle.definitions_blocks.specs.Packed.{AreBelow, IsWidth}
 use Rattle.definitions_blocks.specs.Encodings.{width_of}
 use Rattle.definitions_blocks.specs.Formats.{Format, plain, static, dynamic, runs, delta1_dynamic, delta16_dynamic, reference_dynamic, delta1_runs, IsColumnWidth}
 use Rattle.definitions_columns.specs.ColumnFiles.{whole_blocks, static_width_of, fits_columns}
-use Rattle.definitions_blocks.proofs.EncodingLaws.{IsWidth-width_of, width_of-narrow, fits_from_AreBelow}
+use Rattle.definitions_blocks.proofs.WidthLaws.{IsWidth-width_of, width_of-narrow, fits_from_AreBelow}
 use Rattle.column_core.specs.Scopes.{HoldsOfPrefixes-fits_columns}
 
 whole_words : (values : List ℕ) → ((i : ℕ) → get_or values i 0 < 2 ^ 64) → AreBelow 64 (whole_blocks values)

@@ -6,9 +6,12 @@ use Rattle.definitions_blocks.specs.Runs.{IsRunsBlock}
 use Rattle.definitions_blocks.specs.Encodings.{IsDynamicBlock, IsCascade}
 use Rattle.definitions_blocks.specs.Differences.{first_of, delta1_of, delta16_of, least_of, reference_of}
 use Rattle.definitions_blocks.proofs.WordLaws.{length-word_bytes}
-use Rattle.definitions_blocks.proofs.EncodingLaws.{AreBelow-words, width_of-narrow, IsDynamicBlock-encoding, IsDynamicBlock-size}
-use Rattle.definitions_blocks.proofs.RunLaws.{IsFull-run_count, IsRunsBlock-length, IsRunsBlock-encoding}
-use Rattle.definitions_blocks.proofs.DifferenceLaws.{first_of-word, least_of-word, delta1_of-full, delta16_of-full, reference_of-full}
+use Rattle.definitions_blocks.proofs.WidthLaws.{AreBelow-words, width_of-narrow}
+use Rattle.definitions_blocks.proofs.DynamicLaws.{IsDynamicBlock-encoding, IsDynamicBlock-size}
+use Rattle.definitions_blocks.proofs.RunListLaws.{IsFull-run_count}
+use Rattle.definitions_blocks.proofs.RunBlockLaws.{IsRunsBlock-length, IsRunsBlock-encoding}
+use Rattle.definitions_blocks.proofs.DeltaLaws.{first_of-word, delta1_of-full, delta16_of-full}
+use Rattle.definitions_blocks.proofs.ReferenceLaws.{least_of-word, reference_of-full}
 
 -- an encoding of at most so many bytes
 record HasEncoding (most : ℕ) (encodes : List ℕ → List ℕ → Type 0) (values : List ℕ) : Type 0 where

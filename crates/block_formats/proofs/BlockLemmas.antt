@@ -1,24 +1,13 @@
--- Blocks at the front of bytes, and words read and written one after the other.
+-- What is written behind a width byte, and blocks behind one.
 use Rattle.std.proofs.Common.{◌≡◌, ℕ, suc, ◌-◌, ◌*◌, ◌^◌, ◌<◌, ◌≤◌, List, [], ◌∷◌, ◌++◌, length, take, drop, set, get_or, sym, ap, ◌∙◌, subst, arith}
 use borrow.Rule.Slice.PartMut.{put_mid}
 use Rattle.std.specs.Prelude.{slice_index}
-use Rattle.std.specs.List.{AllByRecursion}
 use Rattle.std.proofs.lemmas.List.{append-nil, nil_from_length, length-drop}
-use Rattle.definitions_blocks.specs.Words.{IsWord, words_of}
 use Rattle.definitions_blocks.specs.Packed.{IsPacked, IsWidth}
 use Rattle.definitions_blocks.specs.Encodings.{width_of, IsDynamicBlock}
 use Rattle.definitions_blocks.proofs.PackedLaws.{packed_one_block, packed_values, IsPacked-values}
-use Rattle.definitions_blocks.proofs.EncodingLaws.{words_from_below, words_of-from_words, width_of-is, IsDynamicBlock-packed}
-use Rattle.definitions_blocks.specs.Words.{word_of}
-use Rattle.strand_pack.proofs.WordBits.{word_of-lt}
-
--- where the words of bytes are the values, the bytes encode them
-pub encoded_by_words : (values bytes : List ℕ) → length bytes ≡ 8 * length values → ((k : ℕ) → get_or bytes k 0 < 256) → ((i : ℕ) → i < length values → word_of bytes i ≡ get_or values i 0) → words_of values ≡ bytes
-unfolding word_of
-encoded_by_words values bytes size octets each = words_of-from_words values bytes size octets each
-
-pub words_by_words : (values bytes : List ℕ) → ((k : ℕ) → get_or bytes k 0 < 256) → ((i : ℕ) → i < length values → word_of bytes i ≡ get_or values i 0) → AllByRecursion IsWord values
-words_by_words values bytes octets each = words_from_below values (λ i within. subst (λ n. n < 2 ^ 64) (each i within) (word_of-lt bytes i octets))
+use Rattle.definitions_blocks.proofs.WidthLaws.{width_of-is}
+use Rattle.definitions_blocks.proofs.DynamicLaws.{IsDynamicBlock-packed}
 
 -- a first element, and then all that follows it, written
 pub written_behind : (first : ℕ) (bytes packed : List ℕ) → 0 < length bytes → put_mid 1 (length (set bytes 0 first) - 1) (set bytes 0 first) packed ≡ first ∷ packed

@@ -2,7 +2,7 @@
 
 ghost use Rattle.std.specs.Prelude.{◌≡◌, ◌<◌, length, slice_index};
 ghost use Rattle.definitions_blocks.specs.Encodings.{IsDynamicBlock, width_of};
-ghost use Rattle.definitions_blocks.proofs.EncodingLaws.{IsDynamicBlock-octet, IsDynamicBlock-one, IsDynamicBlock-front, IsDynamicBlock-sized};
+ghost use Rattle.definitions_blocks.proofs.DynamicLaws.{IsDynamicBlock-octets, IsDynamicBlock-one, IsDynamicBlock-front, IsDynamicBlock-sized};
 
 use block_core::{Block, Packing};
 use strand_pack::{MAX_WIDTH, is_least_width, packed_len};
@@ -58,7 +58,7 @@ impl<const L: usize> Packing for Dynamic<L> {
 
     ghost laws = { record {
       full = λ _ values bytes p. p.full;
-      octets = λ _ values bytes p. IsDynamicBlock-octet values bytes p;
+      octets = λ _ values bytes p. IsDynamicBlock-octets values bytes p;
       one = λ _ values a b p q. IsDynamicBlock-one values a b p q;
       front = λ _ values others a b x y p q e. IsDynamicBlock-front values others a b x y p q e;
       sized = λ _ values others a b p q same. IsDynamicBlock-sized values others a b p q same;

@@ -1,7 +1,7 @@
 //! The format `plain`: 1,024 words of 8 bytes, the little end first.
 
 ghost use Rattle.definitions_blocks.specs.Encodings.{IsPlainBlock};
-ghost use Rattle.definitions_blocks.proofs.EncodingLaws.{IsPlainBlock-octet, IsPlainBlock-one, IsPlainBlock-front, IsPlainBlock-sized};
+ghost use Rattle.definitions_blocks.proofs.PlainLaws.{IsPlainBlock-octets, IsPlainBlock-one, IsPlainBlock-front, IsPlainBlock-sized};
 
 use crate::words::{read_words, write_words};
 use block_core::{Block, Packing};
@@ -47,7 +47,7 @@ impl Packing for Words {
 
     ghost laws = { record {
       full = λ _ values bytes p. p.full;
-      octets = λ _ values bytes p. IsPlainBlock-octet values bytes p;
+      octets = λ _ values bytes p. IsPlainBlock-octets values bytes p;
       one = λ _ values a b p q. IsPlainBlock-one values a b p q;
       front = λ _ values others a b x y p q e. IsPlainBlock-front values others a b x y p q e;
       sized = λ _ values others a b p q _. IsPlainBlock-sized values others a b p q;

@@ -1,8 +1,7 @@
 //! The format `static`: packed at one width for the whole column.
 
 ghost use Rattle.definitions_blocks.specs.Packed.{IsPacked};
-ghost use Rattle.definitions_blocks.proofs.PackedLaws.{packed_one_encoding, packed_prefix};
-ghost use Rattle.definitions_blocks.proofs.EncodingLaws.{IsPacked-full, IsPacked-sized};
+ghost use Rattle.definitions_blocks.proofs.PackedLaws.{packed_one_encoding, packed_prefix, IsPacked-full, IsPacked-sized};
 
 use block_core::{Block, Packing};
 use strand_pack::{MAX_WIDTH, packed_len};

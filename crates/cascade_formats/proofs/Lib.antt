@@ -1,3 +1,5 @@
-mod Sums
-mod Allowed
-mod Written
+pub mod CascadeParts
+pub mod DeltaBlocks
+pub mod ReferenceBlocks
+pub mod Sums
+pub mod Written

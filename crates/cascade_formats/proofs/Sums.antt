@@ -1,11 +1,10 @@
 -- Running sums, rows of sums, and what the lanes are at one place.
-use Rattle.std.proofs.Common.{◌≡◌, ℕ, ◌+◌, ◌-◌, ◌%◌, ◌^◌, ◌<◌, ◌≤◌, List, [], ◌∷◌, ◌++◌, set, take, drop, length, get_or, sym, ap, ap₂, ◌∙◌, inl, inr, arith, append_assoc, length-append}
-use lib.Lanes.{zip2}
+use Rattle.std.proofs.Common.{◌≡◌, ℕ, ◌+◌, ◌-◌, ◌<◌, ◌≤◌, List, [], ◌∷◌, ◌++◌, set, take, drop, length, get_or, sym, ap, ap₂, ◌∙◌, inl, inr, arith, append_assoc}
 use borrow.Rule.Slice.PartMut.{put_mid, post_of}
 use Rattle.std.proofs.lemmas.Bool.{cases_lt}
 use Rattle.std.proofs.lemmas.List.{get_or-take, get_or-drop, get_or_append_left, get_or-append-add, length-take-le, length-take, length-drop, take_more_set, drop-set-lt, drop_more, take_all, drop_all, append-nil}
-use Rattle.std.proofs.lemmas.Simd.{get_or-zip2}
-use Rattle.definitions_blocks.proofs.DifferenceLaws.{sums_of, wrapped_sum}
+use Rattle.definitions_blocks.proofs.LaggedSumLaws.{sums_of}
+use Rattle.definitions_blocks.specs.Differences.{wrapped_sum}
 
 -- one step of a running sum
 pub running : (s : List ℕ) (i sum : ℕ) → i < length s

@@ -3,7 +3,7 @@
 ghost use Rattle.std.specs.Prelude.{◌≡◌, ◌≤◌, ◌++◌, length, take, drop};
 ghost use Rattle.definitions_blocks.specs.Words.{word_bytes};
 ghost use Rattle.definitions_blocks.specs.Encodings.{IsCascade};
-ghost use Rattle.cascade_formats.specs.CascadeLaws.{IsPacking-cascade};
+ghost use Rattle.definitions_blocks.proofs.CascadeLaws.{IsPacking-cascade};
 
 use block_core::{Block, Packing, Transform, words_fit};
 use std::marker::PhantomData;

@@ -1,7 +1,9 @@
 //! Differences to an earlier value of the block.
 
-ghost use Rattle.definitions_blocks.specs.Differences.{first_of, delta1_of, delta16_of};
-ghost use Rattle.definitions_blocks.proofs.DifferenceLaws.{delta1_of-full, delta1_of-join, delta16_of-full, delta16_of-join};
+ghost use Rattle.std.specs.Prelude.{◌≡◌, length};
+ghost use Rattle.definitions_blocks.specs.Blocks.{block_values};
+ghost use Rattle.definitions_blocks.specs.Differences.{first_of, delta1_of, delta16_of, AreDelta1Differences, AreDelta16Differences};
+ghost use Rattle.definitions_blocks.proofs.DeltaLaws.{delta1_laws, delta16_laws};
 
 use crate::differences::{begin_at_zero, subtract_earlier, sum_strands, sum_up};
 use block_core::{Block, Transform, words_fit};
@@ -16,7 +18,12 @@ impl<const L: usize> Transform for Delta1<L> {
 
     ghost differences_of = { delta1_of };
 
-    fn split(full: &Block, into: &mut Block) -> u64 {
+    fn split(full: &Block, into: &mut Block) -> u64
+        requires { length full.now ≡ block_values }
+        ensures base { result ≡ first_of full.now }
+        ensures differences { into.new ≡ delta1_of full.now }
+        ensures each { AreDelta1Differences result full.now into.new }
+    {
         into.fill();
         subtract_earlier::<1>(full.as_slice(), into.as_mut_slice())
     }
@@ -31,11 +38,11 @@ impl<const L: usize> Transform for Delta1<L> {
         begin_at_zero(values)
     }
 
-    ghost laws = { record { full = delta1_of-full; join = delta1_of-join } };
+    ghost laws = { delta1_laws };
 }
 
 /// Each value's difference to the one 16 places before it, mod 2^64, and of the first 16 to the first value, which is the
-/// base. A sum of differences is a sum of vectors, since neighbours stand in different strands.
+/// base. The sums that undo them are sums of vectors, since neighbours stand in different strands.
 pub struct Delta16<const L: usize>;
 
 impl<const L: usize> Transform for Delta16<L> {
@@ -45,7 +52,12 @@ impl<const L: usize> Transform for Delta16<L> {
 
     ghost differences_of = { delta16_of };
 
-    fn split(full: &Block, into: &mut Block) -> u64 {
+    fn split(full: &Block, into: &mut Block) -> u64
+        requires { length full.now ≡ block_values }
+        ensures base { result ≡ first_of full.now }
+        ensures differences { into.new ≡ delta16_of full.now }
+        ensures each { AreDelta16Differences result full.now into.new }
+    {
         into.fill();
         subtract_earlier::<16>(full.as_slice(), into.as_mut_slice())
     }
@@ -60,5 +72,5 @@ impl<const L: usize> Transform for Delta16<L> {
         begin_at_zero(values)
     }
 
-    ghost laws = { record { full = delta16_of-full; join = delta16_of-join } };
+    ghost laws = { delta16_laws };
 }

@@ -1,37 +1,36 @@
 //! Differences to a value some places earlier, and the sums that undo them.
 
-ghost use Rattle.std.specs.Prelude.{◌≡◌, ℕ, ◌+◌, ◌*◌, ◌/◌, ◌%◌, ◌^◌, ◌<◌, ◌≤◌, ◌↔◌, ◌∷◌, [], IsTrue, length, replicate, slice_index};
+ghost use Rattle.std.specs.Prelude.{◌≡◌, ℕ, ◌+◌, ◌*◌, ◌/◌, ◌%◌, ◌^◌, ◌<◌, ◌≤◌, ◌↔◌, IsTrue, length, slice_index};
 ghost use Rattle.definitions_blocks.specs.Blocks.{block_values, IsFull};
-ghost use Rattle.definitions_blocks.specs.Differences.{first_of};
-ghost use Rattle.definitions_blocks.proofs.DifferenceLaws.{gapped, sums_of};
+ghost use Rattle.definitions_blocks.specs.Differences.{first_of, lagged_differences, AreLaggedSums};
 
 use block_core::{BLOCK_LEN, STRANDS, words_fit};
 use lane_core::Lanes;
 
-/// Leaves in `into` each value's difference to the one `GAP` places earlier, and of the first ones to the first.
+/// Leaves in `into` each value's difference to the one `LAG` places before, and of the first ones to the first.
 #[inline(always)]
-pub fn subtract_earlier<const GAP: usize>(values: &[u64], into: &mut [u64]) -> u64
-    requires some { 0 < GAP }
-    requires few { GAP ≤ 16 }
+pub fn subtract_earlier<const LAG: usize>(values: &[u64], into: &mut [u64]) -> u64
+    requires some { 0 < LAG }
+    requires few { LAG ≤ 16 }
     requires whole { length values.now ≡ block_values }
     requires room { length into.old ≡ block_values }
     ensures base { result ≡ first_of values.now }
-    ensures differences { into.new ≡ gapped GAP values.now }
+    ensures differences { into.new ≡ lagged_differences LAG values.now }
 {
     words_fit(values);
     let base = values[0];
-    for place in 0..GAP {
+    for place in 0..LAG {
         into[place] = values[place].wrapping_sub(base);
     }
-    for place in GAP..BLOCK_LEN {
-        into[place] = values[place].wrapping_sub(values[place - GAP]);
+    for place in LAG..BLOCK_LEN {
+        into[place] = values[place].wrapping_sub(values[place - LAG]);
     }
     base
 }
 
 /// Turns differences to the value before into the values.
 pub fn sum_up(base: u64, block: &mut [u64])
-    ensures { block.new ≡ sums_of block.old (base ∷ []) }
+    ensures { AreLaggedSums 1 base block.old block.new }
 {
     let mut sum = base;
     for value in block.iter_mut() {
@@ -44,7 +43,7 @@ pub fn sum_up(base: u64, block: &mut [u64])
 /// as at 1.
 pub fn sum_strands<const L: usize>(base: u64, block: &mut [u64])
     requires { length block.old ≡ block_values }
-    ensures { block.new ≡ sums_of block.old (replicate 16 base) }
+    ensures { AreLaggedSums 16 base block.old block.new }
 {
     match L {
         2 => sum_rows::<2>(base, block),
@@ -60,7 +59,7 @@ fn sum_rows<const L: usize>(base: u64, block: &mut [u64])
     requires few { L ≤ 16 }
     requires even { 16 / L * L ≡ 16 }
     requires whole { length block.old ≡ block_values }
-    ensures { block.new ≡ sums_of block.old (replicate 16 base) }
+    ensures { AreLaggedSums 16 base block.old block.new }
 {
     for place in 0..STRANDS {
         block[place] = block[place].wrapping_add(base);

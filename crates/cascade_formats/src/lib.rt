@@ -7,8 +7,10 @@
 mod cascades;
 mod deltas;
 mod differences;
+mod laws;
 mod references;
 
 pub use cascades::Cascade;
 pub use deltas::{Delta1, Delta16};
+pub use laws::differences_have_one_block;
 pub use references::Reference;

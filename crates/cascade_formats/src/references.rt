@@ -2,8 +2,8 @@
 
 ghost use Rattle.std.specs.Prelude.{◌≡◌, ℕ, ◌+◌, ◌^◌, ◌<◌, ◌≤◌, ◌↔◌, IsTrue, length, slice_index};
 ghost use Rattle.definitions_blocks.specs.Blocks.{block_values};
-ghost use Rattle.definitions_blocks.specs.Differences.{least_of, reference_of};
-ghost use Rattle.definitions_blocks.proofs.DifferenceLaws.{raised, reference_of-full, reference_of-join};
+ghost use Rattle.definitions_blocks.specs.Differences.{least_of, reference_of, raised, AreReferenceDifferences};
+ghost use Rattle.definitions_blocks.proofs.ReferenceLaws.{reference_laws};
 
 use block_core::{BLOCK_LEN, Block, Transform, words_fit};
 
@@ -17,7 +17,12 @@ impl<const L: usize> Transform for Reference<L> {
 
     ghost differences_of = { reference_of };
 
-    fn split(full: &Block, into: &mut Block) -> u64 {
+    fn split(full: &Block, into: &mut Block) -> u64
+        requires { length full.now ≡ block_values }
+        ensures base { result ≡ least_of full.now }
+        ensures differences { into.new ≡ reference_of full.now }
+        ensures each { AreReferenceDifferences result full.now into.new }
+    {
         into.fill();
         let values = full.as_slice();
         let (least, _) = extremes(values);
@@ -35,7 +40,7 @@ impl<const L: usize> Transform for Reference<L> {
         values.len() == BLOCK_LEN && can_be_raised(base, values)
     }
 
-    ghost laws = { record { full = reference_of-full; join = reference_of-join } };
+    ghost laws = { reference_laws };
 }
 
 // Whether the least is 0, and the base can be added to each.

@@ -8,7 +8,9 @@ use Rattle.definitions_blocks.specs.Encodings.{IsCascade}
 use Rattle.definitions_blocks.specs.Formats.{Format, BlockOf}
 use Rattle.definitions_blocks.proofs.WordLaws.{length-word_bytes}
 use Rattle.definitions_blocks.proofs.BlockLaws.{BlockOf-short}
-use Rattle.definitions_blocks.proofs.DifferenceLaws.{delta16_of-early, delta16_of-late, first_of-word, least_of-le, reference_of-at, words_at}
+use Rattle.definitions_blocks.proofs.DeltaLaws.{delta16_of-early, delta16_of-late, first_of-word}
+use Rattle.definitions_blocks.proofs.ReferenceLaws.{least_of-le, reference_of-at}
+use Rattle.definitions_blocks.proofs.WordListLaws.{words_at}
 
 -- an encoding is short
 pub sized : (format : Format) (width : ℕ) (values : List ℕ) → (bytes : List ℕ) × BlockOf format width values bytes → (bytes : List ℕ) × (length bytes < 2 ^ 32) × BlockOf format width values bytes

@@ -4,13 +4,14 @@ use Rattle.std.proofs.lemmas.Bool.{cases_lt}
 use Rattle.std.proofs.lemmas.List.{length-take, length-drop, get_or-take, get_or-drop}
 use Rattle.definitions_blocks.specs.Blocks.{block_values, block_at}
 use Rattle.definitions_blocks.specs.Columns.{max_rows}
-use Rattle.definitions_columns.specs.ColumnFiles.{column_head, IsEncoded, IsIndexed}
+use Rattle.definitions_columns.specs.ColumnFiles.{column_head, IsEncoded, IsIndexed, with_count}
 use Rattle.definitions_blocks.specs.Words.{words_of}
 use Rattle.definitions_blocks.specs.Formats as columns
 use Rattle.definitions_blocks.specs.Formats.{BlockOf}
-use Rattle.definitions_columns.proofs.PieceLaws.{with_count, encoded_size, IsIndexed-empty, IsIndexed-push, IsIndexed-tail, BlockPlace, block_place, counts}
+use Rattle.definitions_columns.proofs.PlaceLaws.{encoded_size, BlockPlace, block_place, counts}
+use Rattle.definitions_columns.proofs.GrowthLaws.{IsIndexed-empty, IsIndexed-push, IsIndexed-tail}
 use Rattle.definitions_blocks.proofs.BlockLaws.{BlockOf-full}
-use Rattle.definitions_blocks.proofs.DifferenceLaws.{words_from}
+use Rattle.definitions_blocks.proofs.WordListLaws.{words_from}
 use Rattle.block_core.specs.declared.formats.Format.{Format}
 use Rattle.block_core.specs.Formats.{format_of, tag_of}
 use Rattle.column_core.specs.Columns.{Encoded, Encoded-prop}
@@ -80,7 +81,7 @@ pub tailed : (format : Format) (width count : ℕ) (values before begun tail byt
     → length values % block_values ≡ 0 → length values + length tail ≤ max_rows → length tail < block_values → ((i : ℕ) → get_or tail i 0 < 2 ^ 64) → bytes ≡ with_count count (before ++ words_of tail)
     → IsChange format width count bytes begun (values ++ tail)
 tailed format width count values before begun tail bytes is counted whole few short words are =
-    let step = IsIndexed-tail (format_of format) width values before begun tail is whole few short (words_from tail words) in
+    let step = IsIndexed-tail (format_of format) width values before begun tail is whole few short (words_from tail (λ i within. words i)) in
     let made : with_count (length values + length tail) (before ++ words_of tail) ≡ bytes = ap (λ n. with_count n (before ++ words_of tail)) (sym counted) ∙ sym are in
     record {
       indexed = subst (λ l. IsIndexed (format_of format) width (values ++ tail) l begun) made step;

@@ -8,7 +8,7 @@ use Rattle.definitions_blocks.specs.Formats as columns
 use Rattle.definitions_blocks.specs.Formats.{IsColumnWidth}
 use Rattle.definitions_columns.specs.FileFaults.{IsHead}
 use Rattle.definitions_blocks.proofs.WordLaws.{length-word_bytes, from_le_bytes-word_bytes}
-use Rattle.definitions_blocks.proofs.EncodingLaws.{AreBelow-words}
+use Rattle.definitions_blocks.proofs.WidthLaws.{AreBelow-words}
 use Rattle.definitions_columns.proofs.ColumnFileLaws.{length-column_head, tag_of-one, SameHead, column_head-one}
 use Rattle.definitions_columns.proofs.WidthLaws.{static_width_of-lawful}
 use Rattle.block_core.specs.declared.formats.Format.{Format}

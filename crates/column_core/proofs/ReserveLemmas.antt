@@ -6,7 +6,7 @@ use Rattle.definitions_columns.specs.ColumnFiles.{IsIndexed}
 use Rattle.definitions_columns.specs.Sizes.{block_size, front_size, file_size}
 use Rattle.definitions_columns.proofs.SizeLaws.{BlockOf-size, IsEncoded-size, sum_blocks-push, sum_blocks-tail}
 use Rattle.definitions_blocks.proofs.BlockLaws.{BlockOf-full}
-use Rattle.definitions_columns.proofs.PieceLaws.{counts}
+use Rattle.definitions_columns.proofs.PlaceLaws.{counts}
 
 -- an encoding and one more start fit
 pub record RoomForBlock (size encoding capacity blocks starts_capacity : ℕ) : Type 0 where

@@ -2,9 +2,8 @@
 
 ghost use Rattle.std.specs.Prelude.{◌≡◌, ◌≤◌, ◌↔◌, ℕ, List, length, IsTrue, MatchOption};
 ghost use Rattle.std.specs.Vec.{vec_capacity};
-ghost use Rattle.definitions_columns.specs.ColumnFiles.{column_head, IsColumnFile, static_width_of};
+ghost use Rattle.definitions_columns.specs.ColumnFiles.{column_head, IsColumnFile, static_width_of, with_count};
 ghost use Rattle.definitions_columns.specs.FileFaults.{IsHead};
-ghost use Rattle.definitions_columns.proofs.PieceLaws.{with_count};
 ghost use Rattle.block_core.specs.Formats.{format_of, tag_of};
 ghost use Rattle.column_core.specs.Heads.{LacksHead, BeginsWithHead};
 

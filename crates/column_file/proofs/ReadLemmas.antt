@@ -2,16 +2,19 @@
 use Rattle.std.proofs.Common.{◌≡◌, ℕ, zero, suc, ◌+◌, ◌-◌, ◌*◌, ◌/◌, ◌%◌, ◌<◌, ◌≤◌, List, [], ◌∷◌, ◌++◌, length, take, drop, get_or, IfSome, refl, sym, ap, ap₂, ◌∙◌, arith, length-append, append_assoc}
 use Rattle.std.proofs.lemmas.List.{take-append-drop, drop-drop, length-take, length-drop}
 use Rattle.definitions_blocks.specs.Blocks.{block_values}
-use Rattle.definitions_columns.specs.ColumnFiles.{column_head, whole_blocks, Piece, piece_values, piece_bytes, head_len, static_width_of, IsColumnFile, IsIndexed}
+use Rattle.definitions_columns.specs.ColumnFiles.{column_head, whole_blocks, Piece, piece_values, piece_bytes, head_len, static_width_of, IsColumnFile, IsIndexed, next_width}
 use Rattle.definitions_blocks.specs.Packed.{IsPacked, IsWidth}
 use Rattle.definitions_blocks.specs.Encodings.{width_of}
 use Rattle.definitions_blocks.specs.Formats.{Format, plain, static, dynamic, runs, delta1_dynamic, delta16_dynamic, reference_dynamic, delta1_runs, tag_of, BlockOf, LacksBlock}
 use Rattle.definitions_columns.specs.FileFaults.{IsHead, StopsAt, HasBlocks, FileFault, bad_header, bad_block, bad_width, bad_tail, HasFileFault}
-use Rattle.definitions_blocks.proofs.EncodingLaws.{width_of-is, drop-octet}
+use Rattle.definitions_blocks.proofs.WidthLaws.{width_of-is}
+use Rattle.definitions_blocks.proofs.WordLaws.{AreOctets-drop}
 use Rattle.definitions_blocks.proofs.BlockLaws.{BlockOf-full}
 use Rattle.definitions_columns.proofs.ColumnFileLaws.{length-piece_values}
-use Rattle.definitions_columns.proofs.PieceLaws.{ArePieces-push, piece_values-push, piece_bytes-push, starts_from-push}
-use Rattle.definitions_columns.proofs.FaultLaws.{next_width, static_width_of-push, pieces_words, opening_values, file_of_opening, HasFileFault-none, HasFileFault-one}
+use Rattle.definitions_columns.proofs.GrowthLaws.{ArePieces-push, piece_values-push, piece_bytes-push, starts_from-push}
+use Rattle.definitions_columns.proofs.FaultLaws.{HasFileFault-none, HasFileFault-one}
+use Rattle.definitions_columns.proofs.WidthLaws.{static_width_of-push}
+use Rattle.definitions_columns.proofs.OpeningLaws.{pieces_words, opening_values, file_of_opening}
 use Rattle.column_core.specs.Heads.{BeginsWithHead}
 use Rattle.column_file.specs.Reading.{ReadSo}
 use Rattle.column_file.specs.Faults.{fault_of, Says}
@@ -133,7 +136,7 @@ pub whole_file : (format : Format) (width count place widest : ℕ) (bytes start
 unfolding has_blocks
 whole_file format width count place widest bytes starts head so octets same long =
     let has = has_blocks format width count place widest bytes starts head so in
-    (opening_values has.opening, file_of_opening bytes starts has so.starts_are (drop-octet place bytes octets) (sym same ∙ so.widest_is) (length-drop place bytes ∙ long))
+    (opening_values has.opening, file_of_opening bytes starts has so.starts_are (AreOctets-drop place bytes octets) (sym same ∙ so.widest_is) (length-drop place bytes ∙ long))
 
 -- An error that names a fault of the bytes is the one of all of them, and no column has the bytes.
 

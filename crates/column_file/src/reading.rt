@@ -4,11 +4,10 @@ ghost use Rattle.std.specs.Prelude.{◌≡◌, ◌≢◌, ◌+◌, ◌-◌, ◌*
 ghost use Rattle.definitions_blocks.specs.Blocks.{block_values};
 ghost use Rattle.definitions_blocks.specs.Formats as columns;
 ghost use Rattle.definitions_blocks.specs.Formats.{BlockOf};
-ghost use Rattle.definitions_columns.specs.ColumnFiles.{IsColumnFile, IsIndexed, static_width_of};
+ghost use Rattle.definitions_columns.specs.ColumnFiles.{IsColumnFile, IsIndexed, static_width_of, next_width};
 ghost use Rattle.definitions_columns.specs.FileFaults.{FileFault, HasFileFault};
 ghost use Rattle.definitions_blocks.specs.Packed.{IsPacked};
 ghost use Rattle.definitions_blocks.specs.Encodings.{width_of};
-ghost use Rattle.definitions_columns.proofs.FaultLaws.{next_width};
 ghost use Rattle.block_core.specs.Formats.{format_of};
 ghost use Rattle.column_core.specs.Columns.{shape};
 ghost use Rattle.column_core.specs.Heads.{BeginsWithHead};

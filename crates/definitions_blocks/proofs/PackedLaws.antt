@@ -1,16 +1,18 @@
--- Bytes are one block at a width, a block has one encoding, every block and all bytes have one, and a block has one width.
-use Rattle.std.proofs.Common.{◌≡◌, ℕ, ◌+◌, ◌-◌, ◌*◌, ◌/◌, ◌%◌, ◌^◌, ◌<◌, ◌≤◌, max, List, ◌++◌, length, get_or, refl, sym, ap, ◌∙◌, subst, inl, inr, arith, length-append}
+-- Bytes are one block at a width, a block has one encoding, and every block and all bytes of a size have one.
+use Rattle.std.proofs.Common.{◌≡◌, ℕ, ◌+◌, ◌*◌, ◌/◌, ◌%◌, ◌^◌, ◌<◌, ◌≤◌, List, ◌++◌, length, get_or, sym, ap, ◌∙◌, subst, inl, inr, arith}
 use Rattle.std.specs.Prelude.{slice_index}
 use Rattle.std.specs.Int.{bit_at}
-use Rattle.std.proofs.Math.Nat.{pow-le-pow_right}
 use Rattle.std.proofs.lemmas.Bool.{cases_lt}
-use Rattle.std.proofs.lemmas.List.{ext_get_or, get_or_past, get_or_append_left, get_or-append_right, get_or-append-add}
+use Rattle.std.proofs.lemmas.List.{ext_get_or, get_or_past}
 use Rattle.std.proofs.lemmas.Nat.{mul-add-lt, div-mul-add, mod-mul-add, div_below, mod_below, div-add-mod'}
 use Rattle.std.proofs.lemmas.Nat.Bits.{bit_at-lt, same_from_bits_below}
-use Rattle.definitions_blocks.specs.Blocks.{block_values}
-use Rattle.definitions_blocks.specs.Packed.{strand_bit, AreBelow, IsPacked, IsWidth}
+use Rattle.definitions_blocks.specs.Words.{AreOctets}
+use Rattle.definitions_blocks.specs.Blocks.{block_values, IsFull}
+use Rattle.definitions_blocks.specs.Packed.{strand_bit, AreBelow, IsPacked}
 use Rattle.definitions_blocks.proofs.BitLaws.{from_bits, from_bits_lt, bit_at-from_bits, table, length-table, get_or-table}
+use Rattle.definitions_blocks.proofs.WordListLaws.{words_from}
 use Rattle.definitions_blocks.proofs.PrefixLaws.{same_front}
+use Rattle.definitions_blocks.proofs.WidthLaws.{AreBelow-wider}
 
 -- bytes are at most one block
 pub packed_one_block : (width : ℕ) (values others bytes : List ℕ) → IsPacked width values bytes → IsPacked width others bytes → values ≡ others
@@ -85,7 +87,7 @@ strand_bit-lt : (bytes : List ℕ) (s k : ℕ) → strand_bit bytes s k < 2
 strand_bit-lt bytes s k = bit_at-lt _ _
 
 -- any bytes of the right size are a block
-pub IsPacked-values : (width : ℕ) (bytes : List ℕ) → width ≤ 64 → length bytes ≡ 128 * width → ((i : ℕ) → slice_index bytes i < 2 ^ 8) → IsPacked width (packed_values width bytes) bytes
+pub IsPacked-values : (width : ℕ) (bytes : List ℕ) → width ≤ 64 → length bytes ≡ 128 * width → AreOctets bytes → IsPacked width (packed_values width bytes) bytes
 unfolding packed_values
 IsPacked-values width bytes narrow size octets =
     let value : ℕ → ℕ = λ i. from_bits (λ b. strand_bit bytes (i % 16) (i / 16 * width + b)) width in
@@ -128,9 +130,9 @@ value_bit_at width values i b low =
     ap (λ r. bit_at (slice_index values (r * 16 + i % 16)) ((i / 16 * width + b) % width)) row
     ∙ ap (λ j. bit_at (slice_index values j) ((i / 16 * width + b) % width)) place ∙ ap (λ c. bit_at (slice_index values i) c) bit
 
-octet : (width : ℕ) (values : List ℕ) (k : ℕ) → slice_index (packed_bytes width values) k < 2 ^ 8
+packed_bytes-octets : (width : ℕ) (values : List ℕ) → AreOctets (packed_bytes width values)
 unfolding packed_bytes
-octet width values k =
+packed_bytes-octets width values k =
     let byte : ℕ → ℕ = λ j. from_bits (λ m. value_bit width values (strand_of j) (place_of j m)) 8 in
     let P : ℕ → Type 0 = λ n. n < 2 ^ 8 in
     elim (cases_lt k (128 * width)) [
@@ -148,7 +150,7 @@ IsPacked-encoding width values narrow count small = record {
   narrow = narrow;
   count = count;
   size = length-packed_bytes width values;
-  octets = octet width values;
+  octets = packed_bytes-octets width values;
   small = small;
   bits = λ i b within low.
       let row : i / 16 < 64 = omega arith in
@@ -156,37 +158,9 @@ IsPacked-encoding width values narrow count small = record {
       sym (value_bit_at width values i b low) ∙ sym (encoded_bit width values (i % 16) (i / 16 * width + b) (omega arith) (omega arith));
 }
 
--- a list has one width
-pub IsWidth-one : (width other : ℕ) (values : List ℕ) → IsWidth width values → IsWidth other values → width ≡ other
-IsWidth-one width other values p q = let up : width ≤ other = p.least other q.holds in let down : other ≤ width = q.least width p.holds in omega arith
+-- the block is one of 64-bit numbers
+pub IsPacked-full : (width : ℕ) (values bytes : List ℕ) → IsPacked width values bytes → IsFull values
+IsPacked-full width values bytes p = record { whole = p.count; words = words_from values (AreBelow-wider width 64 values p.narrow p.small) }
 
-pub AreBelow-wider : (width other : ℕ) (values : List ℕ) → width ≤ other → AreBelow width values → AreBelow other values
-AreBelow-wider width other values wide small = λ i within.
-    let here : slice_index values i < 2 ^ width = small i within in
-    let more : 2 ^ width ≤ 2 ^ other = pow-le-pow_right (omega arith) wide in
-    omega arith
-
-pub AreBelow-append : (width : ℕ) (values others : List ℕ) → AreBelow width values → AreBelow width others → AreBelow width (values ++ others)
-AreBelow-append width values others p q = λ i within.
-    let P : ℕ → Type 0 = λ n. n < 2 ^ width in
-    elim (cases_lt i (length values)) [
-      | inl early ↦ subst P (sym (get_or_append_left values others 0 i early)) (p i early)
-      | inr late ↦ subst P (sym (get_or-append_right values others (length values) i 0 refl late)) (q (i - length values) (omega (arith, length-append values others)))
-    ]
-
-pub AreBelow-front : (width : ℕ) (values others : List ℕ) → AreBelow width (values ++ others) → AreBelow width values
-AreBelow-front width values others p = λ i within. subst (λ n. n < 2 ^ width) (get_or_append_left values others 0 i within) (p i (omega (arith, length-append values others)))
-
-pub AreBelow-rest : (width : ℕ) (values others : List ℕ) → AreBelow width (values ++ others) → AreBelow width others
-AreBelow-rest width values others p = λ i within.
-    subst (λ n. n < 2 ^ width) (get_or-append-add values others i 0) (p (length values + i) (omega (arith, length-append values others)))
-
--- the width of two lists in a row is the greater of their widths
-pub IsWidth-append : (width other : ℕ) (values others : List ℕ) → IsWidth width values → IsWidth other others → IsWidth (max width other) (values ++ others)
-IsWidth-append width other values others p q = record {
-  holds = AreBelow-append (max width other) values others (AreBelow-wider width (max width other) values (omega arith) p.holds) (AreBelow-wider other (max width other) others (omega arith) q.holds);
-  least = λ v small.
-      let front : width ≤ v = p.least v (AreBelow-front v values others small) in
-      let rest : other ≤ v = q.least v (AreBelow-rest v values others small) in
-      omega arith;
-}
+pub IsPacked-sized : (width : ℕ) (values others a b : List ℕ) → IsPacked width values a → IsPacked width others b → length a ≡ length b
+IsPacked-sized width values others a b p q = p.size ∙ sym q.size

@@ -1,9 +1,10 @@
 -- The formats, and the encoding of a full block in each.
-use Rattle.std.specs.Prelude.{◌≡◌, ℕ, ◌≤◌, Bool, true, false, List, ◌++◌, length, take, codes}
+use Rattle.std.specs.Prelude.{◌≡◌, ℕ, ◌≤◌, Bool, true, false, List, length, take, codes}
 use Rattle.definitions_blocks.specs.Packed.{AreBelow, IsPacked}
 use Rattle.definitions_blocks.specs.Encodings.{IsPlainBlock, IsDynamicBlock, IsCascade}
 use Rattle.definitions_blocks.specs.Differences.{first_of, delta1_of, delta16_of, least_of, reference_of}
 use Rattle.definitions_blocks.specs.Runs.{IsRunsBlock}
+use Rattle.definitions_blocks.specs.Packings.{NoBlock}
 
 -- how the blocks of a column are encoded
 pub data Format : Type 0 where
@@ -49,7 +50,7 @@ has_static_width delta16_dynamic = false
 has_static_width reference_dynamic = false
 has_static_width delta1_runs = false
 
--- The bytes are the full block in the format. The width is the column's, and matters where it is packed at that one.
+-- The bytes are the full block in the format. The width is the column's, and matters only if it has a static one.
 abbrev pub BlockOf : Format → ℕ → List ℕ → List ℕ → Type 0
 BlockOf plain width values bytes = IsPlainBlock values bytes
 BlockOf static width values bytes = IsPacked width values bytes
@@ -60,25 +61,27 @@ BlockOf delta16_dynamic width values bytes = IsCascade first_of delta16_of IsDyn
 BlockOf reference_dynamic width values bytes = IsCascade least_of reference_of IsDynamicBlock values bytes
 BlockOf delta1_runs width values bytes = IsCascade first_of delta1_of IsRunsBlock values bytes
 
--- The widths that a column can have: up to 64 where it has a static width, and else 0.
+-- a width up to 64 if there is a static one, and 0 if not
 abbrev pub IsWidthWhere : Bool → ℕ → Type 0
 IsWidthWhere true width = width ≤ 64
 IsWidthWhere false width = width ≡ 0
 
+-- a width that a column in the format can have
 abbrev pub IsColumnWidth : Format → ℕ → Type 0
 IsColumnWidth format width = IsWidthWhere (has_static_width format) width
 
--- The values fit the column's width, where it has one.
+-- the values fit the width if there is a static one
 abbrev pub FitsWhere : Bool → ℕ → List ℕ → Type 0
 FitsWhere true width values = AreBelow width values
 FitsWhere false width values = Unit {0}
 
+-- the values fit the width of a column in the format, if it has a static one
 abbrev pub FitsFormat : Format → ℕ → List ℕ → Type 0
 FitsFormat format width values = FitsWhere (has_static_width format) width values
 
 -- no prefix of the bytes is a block
 abbrev pub LacksBlock : Format → ℕ → List ℕ → Type 0
-LacksBlock format width bytes = (values encoding rest : List ℕ) → BlockOf format width values encoding → bytes ≡ encoding ++ rest → ⊥
+LacksBlock format width bytes = NoBlock (BlockOf format) width bytes
 
 -- so many bytes at the front are encoded in this way
 pub record BeginsWith (encodes : List ℕ → List ℕ → Type 0) (bytes : List ℕ) (count : ℕ) : Type 0 where

@@ -5,5 +5,5 @@ pub mod Packed
 pub mod Differences
 pub mod Runs
 pub mod Encodings
-pub mod Formats
 pub mod Packings
+pub mod Formats

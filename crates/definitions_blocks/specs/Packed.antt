@@ -1,6 +1,7 @@
 -- Bit packing: a block in 16 strands, each value with as many bits as the width says.
 use Rattle.std.specs.Prelude.{◌≡◌, ℕ, ◌+◌, ◌*◌, ◌/◌, ◌%◌, ◌^◌, ◌<◌, ◌≤◌, List, length, slice_index}
 use Rattle.std.specs.Int.{bit_at}
+use Rattle.definitions_blocks.specs.Words.{AreOctets}
 use Rattle.definitions_blocks.specs.Blocks.{block_values, strands}
 
 -- bit m of word j: bit m mod 8 of byte 8j + m div 8
@@ -21,7 +22,7 @@ pub record IsPacked (width : ℕ) (values bytes : List ℕ) : Type 0 where
   pub narrow : width ≤ 64
   pub count : length values ≡ block_values
   pub size : length bytes ≡ 128 * width
-  pub octets : (i : ℕ) → slice_index bytes i < 2 ^ 8
+  pub octets : AreOctets bytes
   pub small : AreBelow width values
   pub bits : (i b : ℕ) → i < block_values → b < width → bit_at (slice_index values i) b ≡ strand_bit bytes (i % strands) (i / strands * width + b)
 

@@ -1,5 +1,6 @@
 -- The laws of packings and transforms, and what a check and a fetch say.
-use Rattle.std.specs.Prelude.{◌≡◌, ℕ, ◌<◌, ◌≤◌, Bool, true, List, ◌++◌, length, take, slice_index}
+use Rattle.std.specs.Prelude.{◌≡◌, ℕ, ◌≤◌, List, ◌++◌, length, take}
+use Rattle.definitions_blocks.specs.Words.{AreOctets}
 use Rattle.definitions_blocks.specs.Blocks.{IsFull}
 
 -- The laws of a relation between full blocks and bytes under a param, in which each block has a head: what is related is a
@@ -7,7 +8,7 @@ use Rattle.definitions_blocks.specs.Blocks.{IsFull}
 -- encoding of one block at most; the head says how long the encoding is.
 pub record IsPacking {Param Head : Type 0} (encodes : Param → List ℕ → List ℕ → Type 0) (block_head : Param → List ℕ → Head) : Type 0 where
   pub full : (param : Param) (values bytes : List ℕ) → encodes param values bytes → IsFull values
-  pub octets : (param : Param) (values bytes : List ℕ) → encodes param values bytes → (i : ℕ) → slice_index bytes i < 256
+  pub octets : (param : Param) (values bytes : List ℕ) → encodes param values bytes → AreOctets bytes
   pub one : (param : Param) (values a b : List ℕ) → encodes param values a → encodes param values b → a ≡ b
   pub front : (param : Param) (values others a b x y : List ℕ) → encodes param values a → encodes param others b → a ++ x ≡ b ++ y → (a ≡ b) × (values ≡ others)
   pub sized : (param : Param) (values others a b : List ℕ) → encodes param values a → encodes param others b → block_head param values ≡ block_head param others → length a ≡ length b

@@ -1,10 +1,14 @@
 -- 64-bit numbers, and their bytes in files.
-use Rattle.std.specs.Prelude.{ℕ, ◌*◌, ◌^◌, ◌<◌, List, take, drop, flat_map}
+use Rattle.std.specs.Prelude.{ℕ, ◌*◌, ◌^◌, ◌<◌, List, take, drop, flat_map, slice_index}
 use Rattle.std.specs.Int.{from_le_bytes, to_le_bytes, w64}
 
 -- a number below 2^64
 abbrev pub IsWord : ℕ → Type 0
 IsWord value = value < 2 ^ 64
+
+-- a list of bytes: each number is below 256
+abbrev pub AreOctets : List ℕ → Type 0
+AreOctets bytes = (i : ℕ) → slice_index bytes i < 256
 
 -- a number in a file: eight bytes, the little end first
 unfoldable pub word_bytes : ℕ → List ℕ

@@ -8,8 +8,9 @@ use Rattle.definitions_columns.specs.ColumnFiles.{column_head, whole_blocks, Pie
 use Rattle.definitions_blocks.specs.Blocks.{block_values}
 use Rattle.definitions_blocks.specs.Formats.{Format, plain, static, dynamic, runs, delta1_dynamic, delta16_dynamic, reference_dynamic, delta1_runs, tag_of}
 use Rattle.definitions_blocks.proofs.WordLaws.{length-word_bytes}
-use Rattle.definitions_blocks.proofs.PrefixLaws.{same_rest, words_of-one}
-use Rattle.definitions_blocks.proofs.BlockLaws.{same_word, same_inner, BlockOf-full, BlockOf-front}
+use Rattle.definitions_blocks.proofs.WordListLaws.{AreWords-rest}
+use Rattle.definitions_blocks.proofs.PrefixLaws.{same_rest, same_word, same_after_word, words_of-one}
+use Rattle.definitions_blocks.proofs.BlockLaws.{BlockOf-full, BlockOf-front}
 
 -- The tag tells the format.
 
@@ -51,7 +52,7 @@ column_head-one tag other width wide count counted rest after few short e =
       tags = ap (λ l. get_or l 5 0) e;
       widths = ap (λ l. get_or l 6 0) e;
       counts = same_word count counted rest after few short words;
-      rests = same_inner count counted rest after words;
+      rests = same_after_word count counted rest after words;
     }
 
 -- Pieces.
@@ -84,15 +85,9 @@ pieces_front format width (piece ∷ pieces) (other ∷ others) x y are be same 
       rests = rest.rests;
     }
 
--- The words of a list are those of its parts.
-
-words_front : (values others : List ℕ) → AllByRecursion IsWord (values ++ others) → AllByRecursion IsWord others
-words_front [] others words = words
-words_front (value ∷ values) others words = words_front values others words.1
-
 -- the tail's values are words
 pub tail_words : (format : Format) (width : ℕ) (values bytes : List ℕ) → (is : IsEncoded format width values bytes) → AllByRecursion IsWord is.tail
-tail_words format width values bytes is = words_front (piece_values is.pieces) is.tail (subst (AllByRecursion IsWord) is.values_are is.column.words)
+tail_words format width values bytes is = AreWords-rest (piece_values is.pieces) is.tail (subst (AllByRecursion IsWord) is.values_are is.column.words)
 
 pub encoded_length : (format : Format) (width : ℕ) (values bytes : List ℕ) → (is : IsEncoded format width values bytes) → length values ≡ length is.pieces * block_values + length is.tail
 encoded_length format width values bytes is =

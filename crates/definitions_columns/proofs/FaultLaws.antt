@@ -1,24 +1,18 @@
--- Bytes are a column file or have one first fault, and never both.
-use Rattle.std.proofs.Common.{◌≡◌, ℕ, zero, suc, ◌*◌, ◌/◌, ◌%◌, ◌^◌, ◌<◌, max, List, [], ◌∷◌, ◌++◌, length, take, drop, get_or, refl, sym, ap, ap₂, ◌∙◌, subst, inl, inr, arith, length-append, append_assoc}
-use Rattle.std.specs.List.{AllByRecursion}
+-- Bytes have one first fault at most, and a column file has none.
+use Rattle.std.proofs.Common.{◌≡◌, ℕ, ◌*◌, ◌/◌, ◌%◌, ◌<◌, List, [], ◌∷◌, ◌++◌, length, refl, sym, ap, ap₂, ◌∙◌, subst, inl, inr, arith, append_assoc}
 use Rattle.std.proofs.lemmas.Bool.{cases_lt}
-use Rattle.std.proofs.lemmas.List.{take_all, take_at, take-append-drop, nil_from_length, length-take, length-drop}
+use Rattle.std.proofs.lemmas.List.{take_all}
+use Rattle.definitions_blocks.specs.Words.{words_of}
 use Rattle.definitions_blocks.specs.Blocks.{block_values}
-use Rattle.definitions_columns.specs.ColumnFiles.{column_head, whole_blocks, static_width_of, Piece, ArePieces, piece_values, piece_bytes, starts_from, head_len, IsIndexed, IsColumnFile}
-use Rattle.definitions_blocks.specs.Words.{word_bytes, words_of, IsWord}
-use Rattle.definitions_blocks.specs.Packed.{AreBelow}
-use Rattle.definitions_blocks.specs.Encodings.{width_of}
-use Rattle.definitions_blocks.specs.Formats.{Format, plain, static, dynamic, runs, delta1_dynamic, delta16_dynamic, reference_dynamic, delta1_runs, tag_of, LacksBlock}
+use Rattle.definitions_blocks.specs.Formats.{Format, tag_of, LacksBlock}
+use Rattle.definitions_columns.specs.ColumnFiles.{whole_blocks, static_width_of, Piece, ArePieces, piece_values, piece_bytes, IsColumnFile}
 use Rattle.definitions_columns.specs.FileFaults.{Opening, FileFault, bad_header, bad_block, bad_width, bad_tail, StopsAt, HasBlocks, asked_width, HasFileFault}
-use Rattle.definitions_blocks.proofs.BlockLaws.{BlockOf-full, BlockOf-front}
-use Rattle.std.specs.Int.{from_le_bytes, w64}
-use Rattle.definitions_blocks.proofs.WordLaws.{word_bytes-from_le_bytes}
-use Rattle.definitions_blocks.proofs.PackedLaws.{IsWidth-append}
-use Rattle.definitions_blocks.proofs.EncodingLaws.{AreBelow-words, width_of-is, IsWidth-width_of, width_of-narrow, length-words_of, take-octet, drop-octet}
-use Rattle.definitions_columns.proofs.ColumnFileLaws.{tag_of-one, SameHead, column_head-one, length-piece_values, SamePieces, pieces_front, encoded_length, whole_blocks-pieces}
-use Rattle.definitions_columns.proofs.PieceLaws.{AreWords-append}
+use Rattle.definitions_blocks.proofs.WordLaws.{length-words_of}
 use Rattle.definitions_blocks.proofs.PrefixLaws.{same_rest}
-use Rattle.definitions_columns.proofs.WidthLaws.{static_width_of-lawful}
+use Rattle.definitions_blocks.proofs.WidthLaws.{AreBelow-words}
+use Rattle.definitions_blocks.proofs.BlockLaws.{BlockOf-front}
+use Rattle.definitions_columns.proofs.ColumnFileLaws.{tag_of-one, SameHead, column_head-one, length-piece_values, SamePieces, pieces_front, encoded_length, whole_blocks-pieces}
+use Rattle.definitions_columns.proofs.WidthLaws.{static_width_of-lawful, static_width_of-blocks}
 
 -- What a head and blocks are: one format, width and count.
 
@@ -121,17 +115,6 @@ HasFileFault-one bytes bad_tail bad_tail p q = refl
 
 -- A file opens with all its blocks.
 
--- where lists have the same whole blocks, they ask for the same width
-static_width_of-blocks : (format : Format) (values others : List ℕ) → whole_blocks values ≡ whole_blocks others → static_width_of format values ≡ static_width_of format others
-static_width_of-blocks plain values others e = refl
-static_width_of-blocks static values others e = ap width_of e
-static_width_of-blocks dynamic values others e = refl
-static_width_of-blocks runs values others e = refl
-static_width_of-blocks delta1_dynamic values others e = refl
-static_width_of-blocks delta16_dynamic values others e = refl
-static_width_of-blocks reference_dynamic values others e = refl
-static_width_of-blocks delta1_runs values others e = refl
-
 -- good blocks are whole
 pub whole_blocks-all : (format : Format) (width : ℕ) (pieces : List Piece) → ArePieces format width pieces → whole_blocks (piece_values pieces) ≡ piece_values pieces
 whole_blocks-all format width pieces are =
@@ -180,102 +163,3 @@ HasFileFault-none format values bytes bad_tail is p =
     let open_file = file_opening format values bytes is in
     let same = same_whole p.0 open_file.has in
     p.2 (ap length same.rests ∙ open_file.rest ∙ ap (λ n. 8 * (n % block_values)) (sym same.counts))
-
--- The numbers that words encode.
-
-abbrev pub words_in : ℕ → List ℕ → List ℕ
-words_in zero bytes = []
-words_in (suc count) bytes = from_le_bytes w64 (take 8 bytes) ∷ words_in count (drop 8 bytes)
-
-length-words_in : (count : ℕ) (bytes : List ℕ) → length (words_in count bytes) ≡ count
-length-words_in zero bytes = refl
-length-words_in (suc count) bytes = ap suc (length-words_in count (drop 8 bytes))
-
-words_of-words_in : (count : ℕ) (bytes : List ℕ) → length bytes ≡ 8 * count → ((k : ℕ) → get_or bytes k 0 < 256) → words_of (words_in count bytes) ≡ bytes
-words_of-words_in zero bytes whole octets = sym (nil_from_length bytes (omega arith))
-words_of-words_in (suc count) bytes whole octets =
-    let first : word_bytes (from_le_bytes w64 (take 8 bytes)) ≡ take 8 bytes = word_bytes-from_le_bytes (take 8 bytes) (omega (arith, length-take 8 bytes)) (take-octet 8 bytes octets) in
-    let rest = words_of-words_in count (drop 8 bytes) (omega (arith, length-drop 8 bytes)) (drop-octet 8 bytes octets) in
-    ap₂ (λ (a : List ℕ) (b : List ℕ). a ++ b) first rest ∙ take-append-drop 8 bytes
-
-word_below : (word : List ℕ) → ((k : ℕ) → get_or word k 0 < 256) → from_le_bytes w64 word < 2 ^ 64
-word_below word octets = omega (arith, octets 0, octets 1, octets 2, octets 3, octets 4, octets 5, octets 6, octets 7)
-
-words_in-words : (count : ℕ) (bytes : List ℕ) → ((k : ℕ) → get_or bytes k 0 < 256) → AllByRecursion IsWord (words_in count bytes)
-words_in-words zero bytes octets = tt
-words_in-words (suc count) bytes octets = (word_below (take 8 bytes) (take-octet 8 bytes octets), words_in-words count (drop 8 bytes) (drop-octet 8 bytes octets))
-
-pub pieces_words : (format : Format) (width : ℕ) (pieces : List Piece) → ArePieces format width pieces → AllByRecursion IsWord (piece_values pieces)
-pieces_words format width [] are = tt
-pieces_words format width (piece ∷ pieces) are = AreWords-append piece.values (piece_values pieces) (BlockOf-full format width piece.values piece.encoding are.0).words (pieces_words format width pieces are.1)
-
--- the column of bytes without a fault
-abbrev pub opening_values : {bytes : List ℕ} → Opening bytes → List ℕ
-opening_values opening = piece_values opening.pieces ++ words_in (opening.count % block_values) opening.rest
-
--- a tail is in no whole block
-whole_of_front : (front tail : List ℕ) → length front % block_values ≡ 0 → length tail < block_values → whole_blocks (front ++ tail) ≡ whole_blocks front
-whole_of_front front tail even short =
-    let all : length (front ++ tail) / block_values * block_values ≡ length front = omega (arith, length-append front tail) in
-    let here : length front / block_values * block_values ≡ length front = omega arith in
-    ap (λ n. take n (front ++ tail)) all ∙ take_at front tail (length front) refl ∙ sym (ap (λ n. take n front) here ∙ take_all (length front) front (omega arith))
-
--- bytes whose blocks are all good, whose width is the least and whose rest is as long as the tail are a column's file
-pub file_of_opening : (bytes starts : List ℕ) (has : HasBlocks bytes) → starts ≡ starts_from head_len has.opening.pieces → ((k : ℕ) → get_or has.opening.rest k 0 < 256) → has.opening.width ≡ asked_width has.opening
-    → length has.opening.rest ≡ 8 * (has.opening.count % block_values) → IsIndexed has.opening.format (static_width_of has.opening.format (opening_values has.opening)) (opening_values has.opening) bytes starts
-file_of_opening bytes starts has begins octets least rest =
-    let o = has.opening in
-    let tail = words_in (o.count % block_values) o.rest in
-    let long = length-piece_values o.format o.width o.pieces o.blocks in
-    let tail_long : length tail ≡ o.count % block_values = length-words_in (o.count % block_values) o.rest in
-    let all : length (opening_values o) ≡ o.count = omega (arith, length-append (piece_values o.pieces) tail, long, tail_long, has.all) in
-    let blocks : whole_blocks (opening_values o) ≡ whole_blocks (piece_values o.pieces) = whole_of_front (piece_values o.pieces) tail (omega (arith, long)) (omega (arith, tail_long)) in
-    let width : o.width ≡ static_width_of o.format (opening_values o) = least ∙ sym (static_width_of-blocks o.format (opening_values o) (piece_values o.pieces) blocks) in
-    record {
-      starts_are = begins;
-      encoded = record {
-        column = record { few = omega (arith, all, o.head.few); words = AreWords-append (piece_values o.pieces) tail (pieces_words o.format o.width o.pieces o.blocks) (words_in-words (o.count % block_values) o.rest octets) };
-        pieces = o.pieces;
-        tail = tail;
-        blocks = subst (λ w. ArePieces o.format w o.pieces) width o.blocks;
-        short = omega (arith, tail_long);
-        values_are = refl;
-        bytes_are =
-            o.bytes_are
-            ∙ ap₂ (λ w n. column_head (tag_of o.format) w n ++ (piece_bytes o.pieces ++ o.rest)) width (sym all)
-            ∙ ap (λ l. column_head (tag_of o.format) (static_width_of o.format (opening_values o)) (length (opening_values o)) ++ (piece_bytes o.pieces ++ l)) (sym (words_of-words_in (o.count % block_values) o.rest rest octets));
-      };
-    }
-
--- How the width of good blocks grows.
-
--- the width that a block more asks for
-abbrev pub next_width : Format → ℕ → List ℕ → ℕ
-next_width plain widest values = widest
-next_width static widest values = max widest (width_of values)
-next_width dynamic widest values = widest
-next_width runs widest values = widest
-next_width delta1_dynamic widest values = widest
-next_width delta16_dynamic widest values = widest
-next_width reference_dynamic widest values = widest
-next_width delta1_runs widest values = widest
-
-width_of-append : (values others : List ℕ) → AreBelow 64 values → AreBelow 64 others → width_of (values ++ others) ≡ max (width_of values) (width_of others)
-width_of-append values others small below =
-    width_of-is (max (width_of values) (width_of others)) (values ++ others)
-    (IsWidth-append (width_of values) (width_of others) values others (IsWidth-width_of values small) (IsWidth-width_of others below))
-    (omega (arith, width_of-narrow values small, width_of-narrow others below))
-
-pub static_width_of-push : (format : Format) (values block : List ℕ) → length values % block_values ≡ 0 → length block ≡ block_values → AllByRecursion IsWord values → AllByRecursion IsWord block
-    → static_width_of format (values ++ block) ≡ next_width format (static_width_of format values) block
-static_width_of-push plain values block even full words fit = refl
-static_width_of-push static values block even full words fit =
-    let all : whole_blocks (values ++ block) ≡ values ++ block = take_all (length (values ++ block) / block_values * block_values) (values ++ block) (omega (arith, length-append values block)) in
-    let here : whole_blocks values ≡ values = take_all (length values / block_values * block_values) values (omega arith) in
-    ap width_of all ∙ width_of-append values block (AreBelow-words values words) (AreBelow-words block fit) ∙ ap (λ l. max (width_of l) (width_of block)) (sym here)
-static_width_of-push dynamic values block even full words fit = refl
-static_width_of-push runs values block even full words fit = refl
-static_width_of-push delta1_dynamic values block even full words fit = refl
-static_width_of-push delta16_dynamic values block even full words fit = refl
-static_width_of-push reference_dynamic values block even full words fit = refl
-static_width_of-push delta1_runs values block even full words fit = refl

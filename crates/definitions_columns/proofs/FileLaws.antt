@@ -8,8 +8,8 @@ use Rattle.definitions_blocks.specs.Formats.{Format, tag_of, BlockOf, IsColumnWi
 use Rattle.definitions_columns.specs.ColumnFiles.{column_head, whole_blocks, static_width_of, Piece, ArePieces, piece_values, piece_bytes, IsEncoded}
 use Rattle.definitions_columns.specs.FileLaws.{OneColumn, OneFile, HasFile}
 use Rattle.definitions_blocks.proofs.PrefixLaws.{same_front, same_rest}
-use Rattle.definitions_blocks.proofs.PackedLaws.{AreBelow-front, AreBelow-rest}
-use Rattle.definitions_blocks.proofs.EncodingLaws.{AreBelow-words, words_from_below}
+use Rattle.definitions_blocks.proofs.WidthLaws.{AreBelow-front, AreBelow-rest, AreBelow-words}
+use Rattle.definitions_blocks.proofs.WordListLaws.{words_from}
 use Rattle.definitions_blocks.proofs.BlockLaws.{BlockOf-full, BlockOf-one, BlockOf-encoding}
 use Rattle.definitions_columns.proofs.ColumnFileLaws.{SameColumn, IsEncoded-one, encoded_length}
 use Rattle.definitions_columns.proofs.WidthLaws.{FitsWhere-front, FitsWhere-rest, whole_below, static_width_of-lawful, static_width_of-holds}
@@ -81,7 +81,7 @@ cut format width (suc number) values lawful long words fits =
     let all_fit : FitsFormat format width (block ++ rest) = subst (FitsFormat format width) (sym parts) fits in
     let full : IsFull block = record {
       whole = omega (arith, length-take block_values values, long);
-      words = words_from_below block (AreBelow-front 64 block rest all_words);
+      words = words_from block (AreBelow-front 64 block rest all_words);
     } in
     let encoded = BlockOf-encoding format width block lawful full (FitsWhere-front (has_static_width format) width block rest all_fit) in
     let piece : Piece = record { values = block; encoding = encoded.0 } in

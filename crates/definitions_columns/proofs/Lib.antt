@@ -1,7 +1,9 @@
 pub mod ColumnFileLaws
-pub mod PieceLaws
+pub mod PlaceLaws
+pub mod GrowthLaws
 pub mod WidthLaws
 pub mod FileLaws
 pub mod FaultLaws
+pub mod OpeningLaws
 pub mod SizeLaws
 pub mod WorkedExamples

@@ -1,32 +1,30 @@
 -- How long files are, and how that grows.
-use Rattle.std.proofs.Common.{◌≡◌, ℕ, zero, suc, ◌+◌, ◌-◌, ◌*◌, ◌/◌, ◌%◌, ◌<◌, ◌≤◌, Bool, true, ◌&&◌, nat_le, List, [], ◌∷◌, ◌++◌, length, take, drop, refl, sym, ap, ap₂, ◌∙◌, subst, arith, length-append, append_assoc}
-use Rattle.std.specs.List.{AllByRecursion}
-use Rattle.std.proofs.lemmas.List.{take_at, take_all, take-append-le, drop-append-le, length-drop, append-nil}
+use Rattle.std.proofs.Common.{◌≡◌, ℕ, zero, suc, ◌+◌, ◌-◌, ◌*◌, ◌%◌, ◌<◌, ◌≤◌, true, ◌&&◌, nat_le, List, [], ◌∷◌, ◌++◌, length, take, drop, refl, sym, ap, ap₂, ◌∙◌, arith, length-append, append_assoc}
+use Rattle.std.proofs.Math.Seq.{drop-append-add}
+use Rattle.std.proofs.lemmas.List.{take_at, take_all, take-append-le, drop-append-le, length-drop}
 use Rattle.std.proofs.lemmas.Bool.Decides.{nat_tests}
-use Rattle.definitions_blocks.specs.Words.{word_bytes, words_of}
-use Rattle.definitions_blocks.specs.Blocks.{block_values, block_at, IsFull}
+use Rattle.definitions_blocks.specs.Blocks.{block_values, block_at}
 use Rattle.definitions_blocks.specs.Differences.{first_of, delta1_of, delta16_of, least_of, reference_of}
 use Rattle.definitions_blocks.specs.Encodings.{IsCascade, IsDynamicBlock}
 use Rattle.definitions_blocks.specs.Runs.{IsRunsBlock}
 use Rattle.definitions_blocks.specs.Formats.{Format, plain, static, dynamic, runs, delta1_dynamic, delta16_dynamic, reference_dynamic, delta1_runs, BlockOf}
-use Rattle.definitions_columns.specs.ColumnFiles.{Piece, ArePieces, piece_values, piece_bytes, IsEncoded, IsColumnFile, static_width_of, head_len}
+use Rattle.definitions_columns.specs.ColumnFiles.{Piece, ArePieces, piece_values, piece_bytes, IsEncoded, IsColumnFile, static_width_of}
 use Rattle.definitions_columns.specs.Sizes.{sum_blocks, dynamic_size, runs_size, block_size, whole_count, blocks_size, front_size, file_size, size_of, is_within_room}
-use Rattle.definitions_blocks.proofs.WordLaws.{length-word_bytes}
-use Rattle.definitions_blocks.proofs.EncodingLaws.{IsPlainBlock-size, IsDynamicBlock-size}
-use Rattle.definitions_blocks.proofs.RunLaws.{IsRunsBlock-length}
+use Rattle.definitions_blocks.proofs.PlainLaws.{IsPlainBlock-size}
+use Rattle.definitions_blocks.proofs.DynamicLaws.{IsDynamicBlock-size}
+use Rattle.definitions_blocks.proofs.RunBlockLaws.{IsRunsBlock-length}
+use Rattle.definitions_blocks.proofs.CascadeLaws.{IsCascade-size}
 use Rattle.definitions_blocks.proofs.BlockLaws.{BlockOf-full}
-use Rattle.definitions_columns.proofs.PieceLaws.{drop_past, encoded_size}
+use Rattle.definitions_columns.proofs.PlaceLaws.{encoded_size}
 use Rattle.definitions_columns.proofs.ColumnFileLaws.{encoded_length}
 
 cascade_dynamic : (base_of : List ℕ → ℕ) (differences_of : List ℕ → List ℕ) (values bytes : List ℕ) → IsCascade base_of differences_of IsDynamicBlock values bytes → length bytes ≡ 8 + dynamic_size (differences_of values)
 cascade_dynamic base_of differences_of values bytes is =
-    let inner = IsDynamicBlock-size (differences_of values) is.inner is.differences in
-    omega (arith, ap length is.encoded, length-append (word_bytes (base_of values)) is.inner, length-word_bytes (base_of values), inner)
+    omega (arith, IsCascade-size base_of differences_of IsDynamicBlock values bytes is, IsDynamicBlock-size (differences_of values) is.inner is.differences)
 
 cascade_runs : (base_of : List ℕ → ℕ) (differences_of : List ℕ → List ℕ) (values bytes : List ℕ) → IsCascade base_of differences_of IsRunsBlock values bytes → length bytes ≡ 8 + runs_size (differences_of values)
 cascade_runs base_of differences_of values bytes is =
-    let inner = IsRunsBlock-length (differences_of values) is.inner is.differences in
-    omega (arith, ap length is.encoded, length-append (word_bytes (base_of values)) is.inner, length-word_bytes (base_of values), inner)
+    omega (arith, IsCascade-size base_of differences_of IsRunsBlock values bytes is, IsRunsBlock-length (differences_of values) is.inner is.differences)
 
 -- an encoding is as long as its block's size
 pub BlockOf-size : (format : Format) (width : ℕ) (values bytes : List ℕ) → BlockOf format width values bytes → length bytes ≡ block_size format width values
@@ -49,7 +47,7 @@ block_at-front values rest n within =
 pub block_at-behind : (block rest : List ℕ) (n : ℕ) → length block ≡ block_values → block_at (block ++ rest) (n + 1) ≡ block_at rest n
 block_at-behind block rest n long =
     let place : (n + 1) * block_values ≡ length block + n * block_values = omega (arith, long) in
-    ap (take block_values) (ap (λ m. drop m (block ++ rest)) place ∙ drop_past block rest (n * block_values))
+    ap (take block_values) (ap (λ m. drop m (block ++ rest)) place ∙ drop-append-add block rest (n * block_values))
 
 -- the sum over the blocks in the front of a list is the front's
 pub sum_blocks-front : (number_of : List ℕ → ℕ) (values rest : List ℕ) (n : ℕ) → n * block_values ≤ length values → sum_blocks number_of (values ++ rest) n ≡ sum_blocks number_of values n
@@ -108,7 +106,7 @@ sum_blocks-push number_of values block whole full =
     let count : whole_count (values ++ block) ≡ suc n = omega (arith, length-append values block) in
     let place : n * block_values ≡ length values + 0 = omega arith in
     let last : block_at (values ++ block) n ≡ block =
-    ap (take block_values) (ap (λ m. drop m (values ++ block)) place ∙ drop_past values block 0) ∙ take_all block_values block (omega (arith, full)) in
+    ap (take block_values) (ap (λ m. drop m (values ++ block)) place ∙ drop-append-add values block 0) ∙ take_all block_values block (omega (arith, full)) in
     omega (arith, ap (sum_blocks number_of (values ++ block)) count, sum_blocks-front number_of values block n (omega arith), ap number_of last)
 
 -- some values more, but no whole block

@@ -1,13 +1,14 @@
--- The least width of a column is one that its format can have, and the whole blocks fit it.
-use Rattle.std.proofs.Common.{◌≡◌, ℕ, ◌+◌, ◌-◌, ◌*◌, ◌/◌, ◌≤◌, Bool, true, false, if◌then◌else◌, List, ◌++◌, length, take, drop, refl, sym, ap, ◌∙◌, subst, arith, length-append}
-use Rattle.std.proofs.lemmas.List.{take-append-drop, take-append-le, take-take, drop-take}
+-- The static width of a column is one that its format can have, its whole blocks fit it, and how it grows by a block.
+use Rattle.std.proofs.Common.{◌≡◌, ℕ, ◌+◌, ◌-◌, ◌*◌, ◌/◌, ◌%◌, ◌≤◌, max, Bool, true, false, if◌then◌else◌, List, ◌++◌, length, take, drop, refl, sym, ap, ◌∙◌, subst, arith, length-append}
+use Rattle.std.specs.List.{AllByRecursion}
+use Rattle.std.proofs.lemmas.List.{take-append-drop, take-append-le, take-take, drop-take, take_all}
+use Rattle.definitions_blocks.specs.Words.{IsWord}
 use Rattle.definitions_blocks.specs.Blocks.{block_values}
 use Rattle.definitions_blocks.specs.Packed.{AreBelow}
 use Rattle.definitions_blocks.specs.Encodings.{width_of, fits_width}
 use Rattle.definitions_blocks.specs.Formats.{Format, has_static_width, IsWidthWhere, IsColumnWidth, FitsWhere, FitsFormat}
-use Rattle.definitions_columns.specs.ColumnFiles.{whole_blocks, static_width_of, fits_columns}
-use Rattle.definitions_blocks.proofs.PackedLaws.{AreBelow-front, AreBelow-rest}
-use Rattle.definitions_blocks.proofs.EncodingLaws.{IsWidth-width_of, width_of-narrow, fits_from_AreBelow, AreBelow-from_fits}
+use Rattle.definitions_columns.specs.ColumnFiles.{whole_blocks, static_width_of, next_width, fits_columns}
+use Rattle.definitions_blocks.proofs.WidthLaws.{AreBelow-front, AreBelow-rest, AreBelow-words, AreBelow-from_fits, fits_from_AreBelow, IsWidth-append, IsWidth-width_of, width_of-is, width_of-narrow}
 
 pub whole_below : (width : ℕ) (values : List ℕ) → AreBelow width values → AreBelow width (whole_blocks values)
 whole_below width values small =
@@ -82,3 +83,28 @@ fits_front false width values rest fits = refl
 -- where a list fits the column's width, its prefixes do
 pub fits_columns-front : (format : Format) (width : ℕ) (values rest : List ℕ) → fits_columns format width (values ++ rest) ≡ true → fits_columns format width values ≡ true
 fits_columns-front format width values rest fits = fits_front (has_static_width format) width values rest fits
+
+-- lists with the same whole blocks ask for the same width
+pub static_width_of-blocks : (format : Format) (values others : List ℕ) → whole_blocks values ≡ whole_blocks others → static_width_of format values ≡ static_width_of format others
+static_width_of-blocks format values others e = ap (λ l. if has_static_width format then width_of l else 0) e
+
+-- A block more.
+
+width_of-append : (values others : List ℕ) → AreBelow 64 values → AreBelow 64 others → width_of (values ++ others) ≡ max (width_of values) (width_of others)
+width_of-append values others small below =
+    width_of-is (max (width_of values) (width_of others)) (values ++ others)
+    (IsWidth-append (width_of values) (width_of others) values others (IsWidth-width_of values small) (IsWidth-width_of others below))
+    (omega (arith, width_of-narrow values small, width_of-narrow others below))
+
+wider_where : (b : Bool) (all before last : ℕ) → all ≡ max before last → (if b then all else 0) ≡ (if b then max (if b then before else 0) last else (if b then before else 0))
+wider_where true all before last e = e
+wider_where false all before last e = refl
+
+pub static_width_of-push : (format : Format) (values block : List ℕ) → length values % block_values ≡ 0 → length block ≡ block_values → AllByRecursion IsWord values → AllByRecursion IsWord block
+    → static_width_of format (values ++ block) ≡ next_width format (static_width_of format values) block
+static_width_of-push format values block even full words fit =
+    let all : whole_blocks (values ++ block) ≡ values ++ block = take_all (length (values ++ block) / block_values * block_values) (values ++ block) (omega (arith, length-append values block)) in
+    let here : whole_blocks values ≡ values = take_all (length values / block_values * block_values) values (omega arith) in
+    let width : width_of (whole_blocks (values ++ block)) ≡ max (width_of (whole_blocks values)) (width_of block) =
+    ap width_of all ∙ width_of-append values block (AreBelow-words values words) (AreBelow-words block fit) ∙ ap (λ l. max (width_of l) (width_of block)) (sym here) in
+    wider_where (has_static_width format) (width_of (whole_blocks (values ++ block))) (width_of (whole_blocks values)) (width_of block) width

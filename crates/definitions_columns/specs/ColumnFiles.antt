@@ -1,5 +1,5 @@
 -- The one file that a column has in each format.
-use Rattle.std.specs.Prelude.{◌≡◌, ℕ, ◌+◌, ◌*◌, ◌/◌, ◌<◌, Bool, true, List, [], ◌∷◌, ◌++◌, length, take, flat_map, codes, if◌then◌else◌}
+use Rattle.std.specs.Prelude.{◌≡◌, ℕ, ◌+◌, ◌*◌, ◌/◌, ◌<◌, max, Bool, true, List, [], ◌∷◌, ◌++◌, length, take, drop, flat_map, codes, if◌then◌else◌}
 use Rattle.std.specs.List.{AllByRecursion}
 use Rattle.definitions_blocks.specs.Words.{word_bytes, words_of}
 use Rattle.definitions_blocks.specs.Columns.{IsColumn}
@@ -15,6 +15,10 @@ column_head tag width count = codes "MCOL" ++ (1 ∷ tag ∷ width ∷ 0 ∷ [])
 abbrev pub head_len : ℕ
 head_len = 16
 
+-- the bytes of a file with another count in the head
+abbrev pub with_count : ℕ → List ℕ → List ℕ
+with_count count bytes = take 8 bytes ++ (word_bytes count ++ drop head_len bytes)
+
 -- the values of the whole blocks
 abbrev pub whole_blocks : List ℕ → List ℕ
 whole_blocks values = take (length values / block_values * block_values) values
@@ -23,7 +27,11 @@ whole_blocks values = take (length values / block_values * block_values) values
 abbrev pub static_width_of : Format → List ℕ → ℕ
 static_width_of format values = if has_static_width format then width_of (whole_blocks values) else 0
 
--- whether the whole blocks fit the column's width, where it has one
+-- the static width of a column of whole blocks, from the one that it has before its last block
+abbrev pub next_width : Format → ℕ → List ℕ → ℕ
+next_width format widest values = if has_static_width format then max widest (width_of values) else widest
+
+-- whether the whole blocks fit the column's width, if it has a static one
 abbrev pub fits_columns : Format → ℕ → List ℕ → Bool
 fits_columns format width values = if has_static_width format then fits_width (whole_blocks values) width else true
 
@@ -32,12 +40,15 @@ pub record Piece : Type 0 where
   pub values : List ℕ
   pub encoding : List ℕ
 
+-- each encoding is the one of its block
 abbrev pub ArePieces : Format → ℕ → List Piece → Type 0
 ArePieces format width pieces = AllByRecursion (λ piece. BlockOf format width piece.values piece.encoding) pieces
 
+-- the values of pieces, one after the other
 abbrev pub piece_values : List Piece → List ℕ
 piece_values pieces = flat_map (λ piece. piece.values) pieces
 
+-- the encodings of pieces, one after the other
 abbrev pub piece_bytes : List Piece → List ℕ
 piece_bytes pieces = flat_map (λ piece. piece.encoding) pieces
 

@@ -1,2 +1,4 @@
 pub mod CellLaws
+pub mod PassesLaws
+pub mod FrontLaws
 pub mod Writes

@@ -14,12 +14,13 @@ count_in bytes = from_le_bytes w16 (take 2 bytes)
 unfoldable pub value_in : List ℕ → ℕ
 value_in cell = from_le_bytes w64 (take 8 cell)
 
--- how often it stands in a row
-unfoldable pub times_in : List ℕ → ℕ
-times_in cell = from_le_bytes w16 (drop 8 cell)
+-- its length
+unfoldable pub length_in : List ℕ → ℕ
+length_in cell = from_le_bytes w16 (drop 8 cell)
 
+-- the run in a cell
 abbrev pub run_in : List ℕ → Run
-run_in cell = record { value = value_in cell; times = times_in cell }
+run_in cell = record { value = value_in cell; length = length_in cell }
 
 -- the first cells
 abbrev pub cells_in : ℕ → List ℕ → List (List ℕ)
@@ -29,7 +30,7 @@ cells_in count bytes = first_chunks 10 count (drop 2 bytes)
 -- value before.
 abbrev pub Passes : Option ℕ → ℕ → List Run → Type 0
 Passes before left [] = left ≡ 0
-Passes before left (run ∷ runs) = (0 < run.times) × (run.times ≤ left) × (before ≢ Some run.value) × Passes (Some run.value) (left - run.times) runs
+Passes before left (run ∷ runs) = (0 < run.length) × (run.length ≤ left) × (before ≢ Some run.value) × Passes (Some run.value) (left - run.length) runs
 
 -- the bytes begin with a block
 pub record BeginsWithRuns (bytes : List ℕ) : Type 0 where
@@ -41,7 +42,7 @@ pub record BeginsWithRuns (bytes : List ℕ) : Type 0 where
 
 -- the run that a pair says
 abbrev pub run_of : ℕ × ℕ → Run
-run_of pair = record { value = pair.0; times = pair.1 }
+run_of pair = record { value = pair.0; length = pair.1 }
 
 -- the runs that are left
 abbrev pub runs_left : RunIter → List Run

@@ -2,7 +2,7 @@
 //! value in eight bytes and its length in two.
 
 ghost use Rattle.std.specs.Prelude.{◌≡◌, ◌+◌, ◌*◌, ◌≤◌, ℕ, length};
-ghost use Rattle.run_formats.specs.Cells.{count_in, value_in, times_in, cells_in};
+ghost use Rattle.run_formats.specs.Cells.{count_in, value_in, length_in, cells_in};
 
 /// How many bytes say how many runs there are.
 pub const HEAD_LEN: usize = 2;
@@ -46,8 +46,8 @@ pub fn value_of(cell: &[u8; 10]) -> u64
 
 /// How long a run is.
 #[inline(always)]
-pub fn times_of(cell: &[u8; 10]) -> u16
-    ensures { result ≡ times_in cell.now }
+pub fn length_of(cell: &[u8; 10]) -> u16
+    ensures { result ≡ length_in cell.now }
 {
     u16::from_le_bytes([cell[8], cell[9]])
 }

@@ -5,9 +5,9 @@ ghost use Rattle.std.specs.Iterator.{YieldsFirstBy, item_count};
 ghost use Rattle.definitions_blocks.specs.Runs.{AreRunsOf, IsRunsBlock};
 ghost use Rattle.run_formats.specs.Cells.{run_of, runs_left};
 
-use crate::cells::{cells_of, run_count_in, times_of, value_of};
+use crate::cells::{cells_of, length_of, run_count_in, value_of};
 
-/// Walks the runs of a borrowed block: each value, and how often it stands there.
+/// Walks the runs of a borrowed block: the value and the length of each.
 #[derive(Clone, Copy)]
 pub struct RunIter<'a> {
     cells: &'a [[u8; 10]],
@@ -35,6 +35,6 @@ impl<'a> Iterator for RunIter<'a> {
     fn next(&mut self) -> Option<(u64, u16)> {
         let (cell, rest) = self.cells.split_first()?;
         self.cells = rest;
-        Some((value_of(cell), times_of(cell)))
+        Some((value_of(cell), length_of(cell)))
     }
 }

@@ -5,7 +5,8 @@ ghost use Rattle.definitions_blocks.specs.Blocks.{block_values};
 ghost use Rattle.definitions_blocks.specs.Runs.{run_values, IsRunsBlock};
 ghost use Rattle.run_formats.specs.Cells.{count_in, run_in, Passes, BeginsWithRuns};
 
-use crate::cells::{HEAD_LEN, block_size, cells_of, run_count_in, times_of, value_of};
+use crate::cells::{HEAD_LEN, block_size, cells_of, length_of, run_count_in, value_of};
+
 /// How many runs a block has at most: each of its 1,024 values is one.
 const MAX_RUNS: u16 = 1024;
 
@@ -35,12 +36,12 @@ fn are_runs(cells: &[[u8; 10]]) -> bool
     let mut left = MAX_RUNS;
     for cell in cells {
         let value = value_of(cell);
-        let times = times_of(cell);
-        if times == 0 || times > left || goes_on(before, value) {
+        let length = length_of(cell);
+        if length == 0 || length > left || goes_on(before, value) {
             return false;
         }
         before = Some(value);
-        left -= times;
+        left -= length;
     }
     left == 0
 }
@@ -72,11 +73,11 @@ fn value_at(cells: &[[u8; 10]], place: usize) -> u64
 {
     let mut left = place;
     for cell in cells {
-        let times = times_of(cell) as usize;
-        if left < times {
+        let length = length_of(cell) as usize;
+        if left < length {
             return value_of(cell);
         }
-        left -= times;
+        left -= length;
     }
 
     // The runs have a value at the place, so this is never reached.
@@ -90,23 +91,23 @@ pub fn write_values(cells: &[[u8; 10]], into: &mut [u64])
 {
     let mut place = 0;
     for cell in cells {
-        let times = usize::from(times_of(cell));
-        write_run(value_of(cell), times, &mut into[place..]);
-        place += times;
+        let length = usize::from(length_of(cell));
+        write_run(value_of(cell), length, &mut into[place..]);
+        place += length;
     }
 }
 
 /// Writes a run at the front. What stands behind it is any: it is written later.
 #[inline(always)]
-fn write_run(value: u64, times: usize, into: &mut [u64])
-    requires { times ≤ length into.old }
-    ensures front { take times into.new ≡ replicate times value }
+fn write_run(value: u64, run_length: usize, into: &mut [u64])
+    requires { run_length ≤ length into.old }
+    ensures front { take run_length into.new ≡ replicate run_length value }
     ensures kept { length into.new ≡ length into.old }
 {
     // A short run in as many places as a fixed number of stores has: no loop is left, nor a branch that depends on its length.
-    if times <= SHORT && SHORT <= into.len() {
+    if run_length <= SHORT && SHORT <= into.len() {
         into[..SHORT].fill(value);
     } else {
-        into[..times].fill(value);
+        into[..run_length].fill(value);
     }
 }

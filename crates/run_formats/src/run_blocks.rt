@@ -1,7 +1,9 @@
 //! A block as its runs.
 
-ghost use Rattle.definitions_blocks.specs.Runs.{IsRunsBlock, run_count};
-ghost use Rattle.definitions_blocks.proofs.RunLaws.{IsRunsBlock-octets, IsRunsBlock-one, IsRunsBlock-front, IsRunsBlock-sized};
+ghost use Rattle.std.specs.Prelude.{◌≡◌, List, length};
+ghost use Rattle.definitions_blocks.specs.Blocks.{block_values};
+ghost use Rattle.definitions_blocks.specs.Runs.{Run, AreRunsOf, IsRunsBlock, run_count};
+ghost use Rattle.definitions_blocks.proofs.RunBlockLaws.{IsRunsBlock-octets, IsRunsBlock-one, IsRunsBlock-front, IsRunsBlock-sized};
 
 use crate::cells::{HEAD_LEN, block_size, cells_of, run_count_in};
 use crate::reading::{found_count, write_values};
@@ -21,7 +23,11 @@ impl Packing for Runs {
 
     ghost block_head = { λ _ values. run_count values };
 
-    fn head_of(_param: (), full: &Block) -> u16 {
+    fn head_of(_param: (), full: &Block) -> u16
+        requires { length full.now ≡ block_values }
+        ensures count { result ≡ run_count full.now }
+        ensures runs { (runs : List Run) → AreRunsOf runs full.now → result ≡ length runs }
+    {
         count_runs(full.as_slice())
     }
 

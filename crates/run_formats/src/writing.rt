@@ -1,8 +1,7 @@
 //! Writing a block's runs in one pass over its values.
 
-ghost use Rattle.std.specs.Prelude.{◌≡◌, ◌+◌, ◌*◌, ◌<◌, ◌≤◌, length, flat_map};
-ghost use Rattle.definitions_blocks.specs.Runs.{run_bytes, run_count, two_bytes};
-ghost use Rattle.definitions_blocks.proofs.RunLaws.{runs_of};
+ghost use Rattle.std.specs.Prelude.{◌≡◌, ◌+◌, ◌*◌, ◌<◌, ◌≤◌, List, length, flat_map};
+ghost use Rattle.definitions_blocks.specs.Runs.{Run, AreRunsOf, run_bytes, run_count, two_bytes};
 
 use crate::cells::CELL_LEN;
 
@@ -10,7 +9,8 @@ use crate::cells::CELL_LEN;
 pub fn count_runs(values: &[u64]) -> u16
     requires some { 0 < length values.now }
     requires few { length values.now ≤ 1024 }
-    ensures { result ≡ run_count values.now }
+    ensures count { result ≡ run_count values.now }
+    ensures runs { (runs : List Run) → AreRunsOf runs values.now → result ≡ length runs }
 {
     let mut before = values[0];
     let mut runs = 1;
@@ -34,30 +34,30 @@ pub fn put_count(runs: u16, into: &mut [u8])
 pub fn put_runs(values: &[u64], into: &mut [u8])
     requires some { 0 < length values.now }
     requires few { length values.now ≤ 1024 }
-    requires size { length into.old ≡ 10 * length (runs_of values.now) }
-    ensures { into.new ≡ flat_map run_bytes (runs_of values.now) }
+    requires size { length into.old ≡ 10 * run_count values.now }
+    ensures { (runs : List Run) → AreRunsOf runs values.now → into.new ≡ flat_map run_bytes runs }
 {
     let mut value = values[0];
-    let mut times = 0;
+    let mut length = 0;
     let mut place = 0;
     for next in values {
         if *next != value {
-            put_run(value, times, &mut into[place..place + CELL_LEN]);
+            put_run(value, length, &mut into[place..place + CELL_LEN]);
             place += CELL_LEN;
             value = *next;
-            times = 0;
+            length = 0;
         }
-        times += 1;
+        length += 1;
     }
-    put_run(value, times, &mut into[place..]);
+    put_run(value, length, &mut into[place..]);
 }
 
 /// Writes a run: its value in eight bytes, and its length in two.
 #[inline(always)]
-fn put_run(value: u64, times: u16, into: &mut [u8])
+fn put_run(value: u64, run_length: u16, into: &mut [u8])
     requires { length into.old ≡ 10 }
-    ensures { into.new ≡ run_bytes (record { value = value; times = times }) }
+    ensures { into.new ≡ run_bytes (record { value = value; length = run_length }) }
 {
     into[..8].copy_from_slice(&value.to_le_bytes());
-    into[8..].copy_from_slice(&times.to_le_bytes());
+    into[8..].copy_from_slice(&run_length.to_le_bytes());
 }

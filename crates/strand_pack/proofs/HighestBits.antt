@@ -7,7 +7,7 @@ use Rattle.std.proofs.lemmas.Bool.{cases_lt}
 use Rattle.std.proofs.lemmas.Nat.{div_below, mod_below, div-add-mod', pow_pos}
 use Rattle.std.proofs.lemmas.Nat.Bits.{bit_at_or}
 use Rattle.definitions_blocks.specs.Packed.{strand_bit, AreBelow, IsPacked, IsWidth}
-use Rattle.definitions_blocks.proofs.PackedLaws.{AreBelow-wider}
+use Rattle.definitions_blocks.proofs.WidthLaws.{AreBelow-wider}
 
 -- no bit of 0
 pub bit_at-none : (bit : ℕ) → bit_at 0 bit ≡ 0

@@ -8,7 +8,8 @@ use Rattle.definitions_blocks.specs.Packed.{strand_bit, AreBelow, IsPacked}
 use Rattle.definitions_blocks.proofs.BitLaws.{total, total-zero, total_more, total_bit, total_same, Below}
 use Rattle.definitions_blocks.specs.Words.{word_of}
 use Rattle.strand_pack.specs.Words.{AreEncoded}
-use Rattle.strand_pack.proofs.WordBits.{word_of-lt, word_of-bit, word_of-same}
+use Rattle.definitions_blocks.proofs.WordListLaws.{word_of-lt}
+use Rattle.strand_pack.proofs.WordBits.{word_of-bit, word_of-same}
 use Rattle.strand_pack.proofs.StrandTotals.{or_added, joined_lt, row_inside, row_full}
 
 -- word `line` of a strand, and the value in a row of it

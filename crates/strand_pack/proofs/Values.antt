@@ -7,7 +7,8 @@ use Rattle.std.proofs.lemmas.Nat.Bits.{bit_at_cat_low, bit_at_cat_high, same_fro
 use Rattle.definitions_blocks.specs.Packed.{word_bit, strand_bit, IsPacked}
 use Rattle.definitions_blocks.specs.Words.{word_of}
 use Rattle.strand_pack.specs.Words.{field, value_in}
-use Rattle.strand_pack.proofs.WordBits.{word_of-lt, word_of-bit}
+use Rattle.definitions_blocks.proofs.WordListLaws.{word_of-lt}
+use Rattle.strand_pack.proofs.WordBits.{word_of-bit}
 use Rattle.strand_pack.proofs.Fields.{field_lt, field_bit, field_none, field_any, field_wide, field_from_one, field_from_two}
 
 pub value_in-lt : (bytes : List ℕ) (width row strand : ℕ) → value_in bytes width row strand < 2 ^ width

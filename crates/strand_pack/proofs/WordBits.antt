@@ -7,7 +7,7 @@ use Rattle.std.proofs.lemmas.List.{get_or-take, get_or-drop, drop-drop}
 use Rattle.std.proofs.lemmas.Nat.{from_le_bytes-to_le_bytes_8}
 use Rattle.std.proofs.lemmas.Slice.{between-put_mid}
 use Rattle.definitions_blocks.specs.Packed.{word_bit}
-use Rattle.definitions_blocks.proofs.BitLaws.{total, total_lt, total_bit, total_same}
+use Rattle.definitions_blocks.proofs.BitLaws.{total, total_bit, total_same}
 use Rattle.definitions_blocks.specs.Words.{word_of}
 
 -- byte k of word j
@@ -31,9 +31,6 @@ word_total bytes j =
 bytes_below : (bytes : List ℕ) (j : ℕ) → ((k : ℕ) → get_or bytes k 0 < 2 ^ 8) → (r : ℕ) → r < 8 → byte_of bytes j r < 2 ^ 8
 unfolding byte_of
 bytes_below bytes j octets r below = octets (8 * j + r)
-
-pub word_of-lt : (bytes : List ℕ) (j : ℕ) → ((k : ℕ) → get_or bytes k 0 < 2 ^ 8) → word_of bytes j < 2 ^ 64
-word_of-lt bytes j octets = let below = total_lt 8 (byte_of bytes j) 8 (bytes_below bytes j octets) in omega (arith, word_total bytes j)
 
 bit_of_byte : (bytes : List ℕ) (j m : ℕ) → bit_at (byte_of bytes j (m / 8)) (m % 8) ≡ word_bit bytes j m
 unfolding byte_of

@@ -1,6 +1,6 @@
 use Rattle.std.proofs.Common.{◌/◌, [], length, arith, sym, ◌∙◌, below_more, get_or-set_same, get_or-set_other}
 use Rattle.strand_pack.proofs.WordBits.{word_read}
-use Rattle.block_formats.proofs.BlockLemmas.{encoded_by_words, words_by_words}
+use Rattle.definitions_blocks.proofs.WordListLaws.{words_of-from_words, words_by_words}
 use Rattle.block_formats.proofs.words.read_words.Goals as goal
 
 pub loop-place-preserved : goal.loop-place-preserved
@@ -14,7 +14,7 @@ loop-place-preserved c =
 
 pub returns-clause-encoded : goal.returns-clause-encoded
 returns-clause-encoded c =
-    sym (encoded_by_words c.loop-place.into c.args.bytes.now (omega arith) (λ k. (c.type_inv.bytes k).fits) (λ i within. c.loop-place.invariant i (omega arith)))
+    sym (words_of-from_words c.loop-place.into c.args.bytes.now (omega arith) (λ k. (c.type_inv.bytes k).fits) (λ i within. c.loop-place.invariant i (omega arith)))
 
 pub returns-clause-words : goal.returns-clause-words
 returns-clause-words c = words_by_words c.loop-place.into c.args.bytes.now (λ k. (c.type_inv.bytes k).fits) (λ i within. c.loop-place.invariant i (omega arith))

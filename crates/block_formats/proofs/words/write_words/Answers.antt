@@ -1,6 +1,6 @@
 use Rattle.std.proofs.Common.{◌+◌, ◌*◌, arith, sym, ◌∙◌, below_more}
 use Rattle.strand_pack.proofs.WordBits.{word_of-same}
-use Rattle.block_formats.proofs.BlockLemmas.{encoded_by_words}
+use Rattle.definitions_blocks.proofs.WordListLaws.{words_of-from_words}
 use Rattle.block_formats.proofs.words.write_words.Goals as goal
 
 pub loop-place-preserved : goal.loop-place-preserved
@@ -10,4 +10,4 @@ loop-place-preserved c =
     c.put_word.ensures.written
 
 pub returns : goal.returns
-returns c = sym (encoded_by_words c.args.values.now c.loop-place.into (omega arith) c.bytes_fit.ensures (λ i within. c.loop-place.invariant i (omega arith)))
+returns c = sym (words_of-from_words c.args.values.now c.loop-place.into (omega arith) c.bytes_fit.ensures (λ i within. c.loop-place.invariant i (omega arith)))

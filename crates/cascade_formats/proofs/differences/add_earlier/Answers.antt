@@ -1,7 +1,7 @@
 use Rattle.std.proofs.Common.{◌≡◌, ◌+◌, ◌-◌, length, take, drop, get_or, sym, ap, ap₂, ◌∙◌, arith, length-append}
 use Rattle.std.proofs.lemmas.List.{get_or_append_left}
 use Rattle.std.proofs.lemmas.Simd.{get_or-zip2, length-zip2}
-use Rattle.definitions_blocks.proofs.DifferenceLaws.{wrapped_sum}
+use Rattle.definitions_blocks.specs.Differences.{wrapped_sum}
 use Rattle.cascade_formats.proofs.Sums.{part_at, loaded_at, lanes_of}
 use Rattle.cascade_formats.proofs.differences.add_earlier.Goals as goal
 

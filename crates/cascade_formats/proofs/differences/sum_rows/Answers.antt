@@ -1,6 +1,6 @@
-use Rattle.std.proofs.Common.{◌≡◌, ◌+◌, ◌*◌, ◌/◌, ◌≤◌, arith, ◌∙◌}
+use Rattle.std.proofs.Common.{◌+◌, ◌*◌, ◌/◌, ◌≤◌, arith, ◌∙◌}
 use Rattle.std.proofs.Math.Nat.{mul-le-mul_right}
-use Rattle.definitions_blocks.proofs.DifferenceLaws.{sums_of-places}
+use Rattle.definitions_blocks.proofs.LaggedSumLaws.{AreLaggedSums-places}
 use Rattle.cascade_formats.proofs.Sums.{more_rows}
 use Rattle.cascade_formats.proofs.differences.sum_rows.Goals as goal
 
@@ -23,6 +23,6 @@ loop-group-preserved g c =
 pub returns : goal.returns
 returns g c =
     let groups : 63 * (16 / g.row.L) * g.row.L ≤ c.loop-group.group * g.row.L = mul-le-mul_right g.row.L (omega arith) in
-    sums_of-places 16 c.args.base c.args.block.now c.loop-group.block (omega arith) (omega arith)
+    AreLaggedSums-places 16 c.args.base c.args.block.now c.loop-group.block (omega arith)
     (λ k early within. c.loop-group.invariant.early k early)
     (λ k within. c.loop-group.invariant.late k (omega arith))

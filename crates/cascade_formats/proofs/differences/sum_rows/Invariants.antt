@@ -1,6 +1,6 @@
 -- What is summed is each difference and the value a row earlier, or the base; the rest is as it was.
 use Rattle.std.proofs.Common.{◌≡◌, ℕ, ◌+◌, ◌*◌, ◌<◌, ◌≤◌, get_or}
-use Rattle.definitions_blocks.proofs.DifferenceLaws.{wrapped_sum}
+use Rattle.definitions_blocks.specs.Differences.{wrapped_sum}
 use Rattle.cascade_formats.proofs.differences.sum_rows.Given as goal
 
 abbrev pub invariant-loop-place : goal.invariant-loop-place

@@ -1,7 +1,7 @@
 use Rattle.std.proofs.Common.{◌≡◌, ◌-◌, ◌≤◌, ◌<◌, get_or, inl, inr, refl, arith}
 use Rattle.std.proofs.lemmas.Bool.{leb-true, le-leb, cases_lt}
 use Rattle.definitions_blocks.specs.Differences.{least_of}
-use Rattle.definitions_blocks.proofs.DifferenceLaws.{least_of-le, least_of-at}
+use Rattle.definitions_blocks.proofs.ReferenceLaws.{least_of-le, least_of-at}
 use Rattle.cascade_formats.proofs.references.can_be_raised.Goals as goal
 
 pub returns-then-zeros-eq0 : goal.returns-then-zeros-eq0

@@ -1,5 +1,5 @@
 use Rattle.std.proofs.Common.{arith}
-use Rattle.definitions_blocks.proofs.DifferenceLaws.{least_of-le, reference_of-is}
+use Rattle.definitions_blocks.proofs.ReferenceLaws.{least_of-le, reference_of-is}
 use Rattle.cascade_formats.proofs.references.lower.Goals as goal
 
 pub overflow_sub-into : goal.overflow_sub-into

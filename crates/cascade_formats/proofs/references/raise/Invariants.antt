@@ -1,6 +1,6 @@
 -- The differences so far are raised, and the rest is as it was.
 use Rattle.std.proofs.Common.{◌≡◌, ℕ, ◌<◌, ◌≤◌, get_or}
-use Rattle.definitions_blocks.proofs.DifferenceLaws.{wrapped_sum}
+use Rattle.definitions_blocks.specs.Differences.{wrapped_sum}
 use Rattle.cascade_formats.proofs.references.raise.Given as goal
 
 abbrev pub invariant-loop-difference : goal.invariant-loop-difference

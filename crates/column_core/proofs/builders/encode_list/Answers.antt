@@ -8,7 +8,7 @@ use Rattle.block_core.specs.Formats.{format_of}
 use Rattle.column_core.specs.Columns.{Encoding, encoding_of, reserve, shape}
 use Rattle.definitions_columns.proofs.WidthLaws.{static_width_of-block}
 use Rattle.column_core.proofs.BuilderLemmas.{static_width_of-whole}
-use Rattle.definitions_columns.proofs.PieceLaws.{take_blocks}
+use Rattle.definitions_columns.proofs.PlaceLaws.{take_blocks}
 use Rattle.column_core.proofs.builders.encode_list.Goals as goal
 
 pub push_block-requires-clause-fits : goal.push_block-requires-clause-fits

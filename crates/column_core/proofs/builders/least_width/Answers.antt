@@ -3,7 +3,7 @@ use Rattle.std.proofs.lemmas.List.{take_all}
 use Rattle.definitions_blocks.specs.Blocks.{block_values}
 use Rattle.definitions_blocks.specs.Encodings.{width_of}
 use Rattle.definitions_columns.specs.ColumnFiles.{whole_blocks}
-use Rattle.definitions_blocks.proofs.EncodingLaws.{width_of-is}
+use Rattle.definitions_blocks.proofs.WidthLaws.{width_of-is}
 use Rattle.column_core.proofs.builders.least_width.Goals as goal
 
 pub returns-in-Static-clause-width : goal.returns-in-Static-clause-width

@@ -1,7 +1,7 @@
 use Rattle.std.proofs.Common.{get_or, refl, sym, arith, subst}
 use Rattle.definitions_blocks.specs.Formats.{BlockOf}
 use Rattle.definitions_blocks.specs.Blocks.{block_at}
-use Rattle.definitions_columns.proofs.PieceLaws.{counts}
+use Rattle.definitions_columns.proofs.PlaceLaws.{counts}
 use Rattle.definitions_columns.proofs.ColumnFileLaws.{SameColumn, IsEncoded-one}
 use Rattle.column_core.proofs.EncodedLemmas.{BlockSpan, block_span}
 use Rattle.column_core.proofs.encodings.block_part.Goals as goal

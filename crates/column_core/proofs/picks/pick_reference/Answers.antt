@@ -1,7 +1,7 @@
 use Rattle.std.proofs.Common.{◌≡◌, ◌^◌, ◌<◌, get_or, sym, subst, ◌∙◌, arith, ap}
 use Rattle.definitions_blocks.specs.Differences.{least_of, reference_of}
 use Rattle.definitions_blocks.specs.Encodings.{IsDynamicBlock}
-use Rattle.definitions_blocks.proofs.DifferenceLaws.{words_at}
+use Rattle.definitions_blocks.proofs.WordListLaws.{words_at}
 use Rattle.column_core.proofs.BlockLemmas.{inside, lowered}
 use Rattle.column_core.proofs.picks.pick_reference.Goals as goal
 

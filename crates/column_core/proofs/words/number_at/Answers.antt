@@ -1,6 +1,6 @@
 use Rattle.std.proofs.Common.{length, ap, arith, ◌∙◌}
 use Rattle.definitions_blocks.specs.Words.{word_of}
-use Rattle.definitions_blocks.proofs.EncodingLaws.{length-words_of}
+use Rattle.definitions_blocks.proofs.WordLaws.{length-words_of}
 use Rattle.column_core.proofs.WordLemmas.{word_of-words_of}
 use Rattle.column_core.proofs.words.number_at.Goals as goal
 

@@ -1,6 +1,6 @@
 use Rattle.std.proofs.Common.{◌<◌, ◌∷◌, ◌++◌, [], length, ap, ap₂, sym, arith, ◌∙◌}
 use Rattle.std.proofs.lemmas.List.{length-take, take_more, take_all}
-use Rattle.definitions_blocks.proofs.EncodingLaws.{length-words_of}
+use Rattle.definitions_blocks.proofs.WordLaws.{length-words_of}
 use Rattle.column_core.proofs.words.push_words.Goals as goal
 
 pub number_at-requires : goal.number_at-requires

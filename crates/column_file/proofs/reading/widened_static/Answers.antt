@@ -1,8 +1,8 @@
 use Rattle.std.proofs.Common.{◌≡◌, ℕ, ◌≤◌, List, subst, arith}
 use Rattle.definitions_blocks.specs.Packed.{IsPacked, IsWidth}
 use Rattle.definitions_blocks.specs.Encodings.{width_of}
-use Rattle.definitions_blocks.proofs.EncodingLaws.{width_of-is, IsWidth-width_of, AreBelow-words, IsPacked-full}
-use Rattle.definitions_blocks.proofs.PackedLaws.{packed_one_block}
+use Rattle.definitions_blocks.proofs.WidthLaws.{width_of-is, IsWidth-width_of, AreBelow-words}
+use Rattle.definitions_blocks.proofs.PackedLaws.{IsPacked-full, packed_one_block}
 use Rattle.column_file.proofs.reading.widened_static.Goals as goal
 
 pub returns-then-widest-width : goal.returns-then-widest-width

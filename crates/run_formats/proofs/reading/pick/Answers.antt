@@ -1,7 +1,7 @@
 use Rattle.std.proofs.Common.{◌≡◌, length, map, get_or, ap, ◌∙◌, arith}
 use Rattle.definitions_blocks.specs.Runs.{run_values}
 use Rattle.run_formats.specs.Cells.{run_in}
-use Rattle.run_formats.proofs.CellLaws.{FrontRuns, block_runs, block_values_in_cells}
+use Rattle.run_formats.proofs.FrontLaws.{FrontRuns, block_runs, block_values_in_cells}
 use Rattle.run_formats.proofs.reading.pick.Goals as goal
 
 pub run_count_in-requires : goal.run_count_in-requires

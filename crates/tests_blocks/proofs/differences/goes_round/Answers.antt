@@ -1,4 +1,4 @@
-use Rattle.definitions_blocks.proofs.DifferenceLaws.{full_from}
+use Rattle.definitions_blocks.proofs.WordListLaws.{full_from}
 use Rattle.tests_blocks.proofs.differences.goes_round.Goals as goal
 
 pub join-requires : goal.join-requires

@@ -1,5 +1,5 @@
 use Rattle.std.proofs.Common.{arith}
-use Rattle.definitions_blocks.proofs.PackedLaws.{AreBelow-wider}
+use Rattle.definitions_blocks.proofs.WidthLaws.{AreBelow-wider}
 use Rattle.tests_blocks.proofs.packing.expect_round_trips.Goals as goal
 
 pub pack-requires-clause-small : goal.pack-requires-clause-small

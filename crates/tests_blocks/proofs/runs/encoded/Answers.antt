@@ -1,6 +1,7 @@
 use Rattle.std.proofs.Common.{◌∙◌, arith}
 use Rattle.definitions_blocks.specs.Runs.{run_count, IsRunsBlock}
-use Rattle.definitions_blocks.proofs.RunLaws.{IsRunCount, runs_of, runs_encoding, IsFull-run_count, IsRunsBlock-length, IsRunsBlock-encoding}
+use Rattle.definitions_blocks.proofs.RunListLaws.{IsRunCount, runs_of, IsFull-run_count}
+use Rattle.definitions_blocks.proofs.RunBlockLaws.{runs_encoding, IsRunsBlock-length, IsRunsBlock-encoding}
 use Rattle.tests_blocks.proofs.runs.encoded.Goals as goal
 
 pub byte_len-requires : goal.byte_len-requires

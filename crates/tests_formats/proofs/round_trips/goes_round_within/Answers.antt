@@ -1,5 +1,5 @@
 use Rattle.std.proofs.Common.{arith}
-use Rattle.definitions_blocks.proofs.PackedLaws.{AreBelow-wider}
+use Rattle.definitions_blocks.proofs.WidthLaws.{AreBelow-wider}
 use Rattle.tests_formats.proofs.round_trips.goes_round_within.Goals as goal
 
 pub goes_round-requires-clause-fits : goal.goes_round-requires-clause-fits

@@ -1,7 +1,8 @@
 use Rattle.std.proofs.Common.{◌≡◌, ◌+◌, ◌-◌, ◌*◌, ◌<◌, length, take, drop, sym, ap, ◌∙◌, subst, arith}
 use Rattle.std.proofs.lemmas.List.{length-take, length-drop}
 use Rattle.definitions_blocks.specs.Packed.{IsPacked, IsWidth}
-use Rattle.definitions_blocks.proofs.EncodingLaws.{take-octet, drop-octet, BeginsDynamic, begins_dynamic}
+use Rattle.definitions_blocks.proofs.WordLaws.{AreOctets-take, AreOctets-drop}
+use Rattle.definitions_blocks.proofs.DynamicLaws.{BeginsDynamic, begins_dynamic}
 use Rattle.block_formats.proofs.BlockLemmas.{FoundDynamic, dynamic_found}
 use Rattle.block_formats.proofs.dynamic_blocks.DynamicPacking.check.Goals as goal
 
@@ -28,6 +29,6 @@ returns g c =
     let found : FoundDynamic width (1 + length_of) bytes =
     dynamic_found width (1 + length_of) bytes part some (sym c.width_in-width.ensures) (omega arith) (omega (arith, c.packed_len-end.ensures)) (ap (λ n. take n (drop 1 bytes)) count)
     (omega (arith, length-take (1 + length_of - 1) (drop 1 bytes), length-drop 1 bytes))
-    (take-octet (1 + length_of - 1) (drop 1 bytes) (drop-octet 1 bytes (λ k. (c.type_inv.bytes k).fits)))
+    (AreOctets-take (1 + length_of - 1) (drop 1 bytes) (AreOctets-drop 1 bytes (λ k. (c.type_inv.bytes k).fits)))
     (λ values packing. (c.is_least_width.ensures values packing).0 c.if-not-is_least_width.false) in
     record { values = found.values; encoded = found.encoded; headed = found.headed; within = omega (arith, some, c.packed_len.ensures, c.packed_len-end.ensures) }

@@ -1,7 +1,7 @@
 use Rattle.std.proofs.Common.{◌≡◌, ◌∷◌, sym, subst, ap, arith}
 use Rattle.definitions_blocks.specs.Packed.{IsPacked}
 use Rattle.definitions_blocks.specs.Encodings.{IsDynamicBlock, width_of}
-use Rattle.definitions_blocks.proofs.EncodingLaws.{IsDynamicBlock-size}
+use Rattle.definitions_blocks.proofs.DynamicLaws.{IsDynamicBlock-size}
 use Rattle.block_formats.proofs.BlockLemmas.{written_behind}
 use Rattle.block_formats.proofs.dynamic_blocks.DynamicPacking.encode.Goals as goal
 

@@ -1,5 +1,5 @@
 use Rattle.std.proofs.Common.{sym}
-use Rattle.definitions_blocks.proofs.EncodingLaws.{width_of-is}
+use Rattle.definitions_blocks.proofs.WidthLaws.{width_of-is}
 use Rattle.block_formats.proofs.dynamic_blocks.DynamicPacking.head_of.Goals as goal
 
 pub returns : goal.returns

@@ -1,5 +1,5 @@
 use Rattle.std.proofs.Common.{sym}
-use Rattle.definitions_blocks.proofs.EncodingLaws.{IsPlainBlock-size}
+use Rattle.definitions_blocks.proofs.PlainLaws.{IsPlainBlock-size}
 use Rattle.block_formats.proofs.plain_blocks.WordsPacking.byte_len.Goals as goal
 
 pub returns : goal.returns

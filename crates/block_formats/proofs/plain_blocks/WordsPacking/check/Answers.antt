@@ -1,6 +1,8 @@
 use Rattle.std.proofs.Common.{take, refl, ap, length, arith, length-append}
 use Rattle.std.proofs.lemmas.List.{length-take}
-use Rattle.definitions_blocks.proofs.EncodingLaws.{plain_values, take-octet, IsPlainBlock-size, IsPlainBlock-values}
+use Rattle.definitions_blocks.proofs.WordListLaws.{words_in}
+use Rattle.definitions_blocks.proofs.WordLaws.{AreOctets-take}
+use Rattle.definitions_blocks.proofs.PlainLaws.{IsPlainBlock-size, IsPlainBlock-words_in}
 use Rattle.block_formats.proofs.plain_blocks.WordsPacking.check.Goals as goal
 
 pub returns-then-bytes-lt-BLOCK_BYTES : goal.returns-then-bytes-lt-BLOCK_BYTES
@@ -11,8 +13,8 @@ returns c =
     let bytes = c.args.bytes.now in
     let front = take 8192 bytes in
     record {
-      values = plain_values front;
-      encoded = IsPlainBlock-values front (omega (arith, length-take 8192 bytes)) (take-octet 8192 bytes (λ k. (c.type_inv.bytes k).fits));
+      values = words_in 1024 front;
+      encoded = IsPlainBlock-words_in front (omega (arith, length-take 8192 bytes)) (AreOctets-take 8192 bytes (λ k. (c.type_inv.bytes k).fits));
       headed = refl;
       within = omega arith;
     }

@@ -1,5 +1,5 @@
 use Rattle.std.proofs.Common.{ap, length, arith}
-use Rattle.definitions_blocks.proofs.EncodingLaws.{IsPlainBlock-size}
+use Rattle.definitions_blocks.proofs.PlainLaws.{IsPlainBlock-size}
 use Rattle.block_formats.proofs.plain_blocks.WordsPacking.decode.Goals as goal
 
 pub read_words-requires : goal.read_words-requires

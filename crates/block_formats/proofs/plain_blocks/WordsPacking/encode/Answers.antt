@@ -1,6 +1,6 @@
 use Rattle.std.proofs.Common.{ap, length, arith}
 use Rattle.definitions_blocks.specs.Encodings.{IsPlainBlock}
-use Rattle.definitions_blocks.proofs.EncodingLaws.{IsPlainBlock-size}
+use Rattle.definitions_blocks.proofs.PlainLaws.{IsPlainBlock-size}
 use Rattle.block_formats.proofs.plain_blocks.WordsPacking.encode.Goals as goal
 
 pub write_words-requires : goal.write_words-requires

@@ -1,7 +1,7 @@
 use Rattle.std.proofs.Common.{take, refl, arith}
 use Rattle.std.proofs.lemmas.List.{length-take}
 use Rattle.definitions_blocks.proofs.PackedLaws.{packed_values, IsPacked-values}
-use Rattle.definitions_blocks.proofs.EncodingLaws.{take-octet}
+use Rattle.definitions_blocks.proofs.WordLaws.{AreOctets-take}
 use Rattle.block_formats.proofs.static_blocks.StaticPacking.check.Goals as goal
 
 pub returns : goal.returns
@@ -12,7 +12,7 @@ returns g c =
     let front = take count bytes in
     record {
       values = packed_values width front;
-      encoded = IsPacked-values width front (omega arith) (omega (arith, length-take count bytes)) (take-octet count bytes (λ k. (c.type_inv.bytes k).fits));
+      encoded = IsPacked-values width front (omega arith) (omega (arith, length-take count bytes)) (AreOctets-take count bytes (λ k. (c.type_inv.bytes k).fits));
       headed = refl;
       within = omega arith;
     }

@@ -1,5 +1,5 @@
 use Rattle.std.proofs.Common.{rules, ◌+◌, ◌^◌, ◌<◌, ap, arith}
-use Rattle.cascade_formats.specs.CascadeLaws.{inner_of}
+use Rattle.cascade_formats.proofs.CascadeParts.{inner_of}
 use Rattle.cascade_formats.proofs.cascades.CascadePacking.byte_len.Goals as goal
 
 pub overflow_add-result : goal.overflow_add-result

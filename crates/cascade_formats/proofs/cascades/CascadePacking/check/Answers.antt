@@ -1,5 +1,5 @@
 use Rattle.std.proofs.Common.{arith}
-use Rattle.cascade_formats.specs.CascadeLaws.{too_few, none_inside, not_allowed, block_found}
+use Rattle.cascade_formats.proofs.CascadeParts.{too_few, none_inside, not_allowed, block_found}
 use Rattle.cascade_formats.proofs.cascades.CascadePacking.check.Goals as goal
 
 pub returns-then-bytes-lt8 : goal.returns-then-bytes-lt8

@@ -1,7 +1,7 @@
 use Rattle.std.proofs.Common.{◌^◌, ◌<◌, ◌++◌, sym, ap, ◌∙◌, subst, arith}
 use Rattle.definitions_blocks.specs.Words.{word_bytes}
 use Rattle.definitions_blocks.specs.Packings.{IsBlock}
-use Rattle.cascade_formats.specs.CascadeLaws.{inner_of, same_block, cascade_from}
+use Rattle.cascade_formats.proofs.CascadeParts.{inner_of, same_block, cascade_from}
 use Rattle.cascade_formats.proofs.cascades.CascadePacking.decode.Goals as goal
 
 pub rest_of-requires : goal.rest_of-requires

@@ -1,7 +1,7 @@
-use Rattle.std.proofs.Common.{rules, ◌≡◌, ◌≤◌, ◌++◌, length, drop, length-append, refl, sym, ap, ◌∙◌, arith}
+use Rattle.std.proofs.Common.{rules, ◌≤◌, ◌++◌, length, drop, refl, ap, ◌∙◌, arith}
 use Rattle.definitions_blocks.specs.Words.{word_bytes}
 use Rattle.definitions_blocks.proofs.WordLaws.{length-word_bytes}
-use Rattle.cascade_formats.specs.CascadeLaws.{cascade_from}
+use Rattle.cascade_formats.proofs.CascadeParts.{cascade_from}
 use Rattle.cascade_formats.proofs.Written.{written_after, cascade_long}
 use Rattle.cascade_formats.proofs.cascades.CascadePacking.encode.Goals as goal
 

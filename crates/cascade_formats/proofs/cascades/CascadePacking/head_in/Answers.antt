@@ -1,6 +1,6 @@
 use Rattle.std.proofs.Common.{◌≡◌, refl, sym, ap₂, ◌∙◌, subst, arith}
-use Rattle.definitions_blocks.proofs.BlockLaws.{same_word}
-use Rattle.cascade_formats.specs.CascadeLaws.{inner_of, made_up}
+use Rattle.definitions_blocks.proofs.PrefixLaws.{same_word}
+use Rattle.cascade_formats.proofs.CascadeParts.{inner_of, made_up}
 use Rattle.cascade_formats.proofs.cascades.CascadePacking.head_in.Goals as goal
 
 pub word_of-requires : goal.word_of-requires

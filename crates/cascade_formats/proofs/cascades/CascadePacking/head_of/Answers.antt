@@ -1,5 +1,5 @@
 use Rattle.std.proofs.Common.{length, ap, ◌∙◌}
-use Rattle.definitions_blocks.proofs.DifferenceLaws.{full_from}
+use Rattle.definitions_blocks.proofs.WordListLaws.{full_from}
 use Rattle.cascade_formats.proofs.cascades.CascadePacking.head_of.Goals as goal
 
 pub head_of-requires : goal.head_of-requires

@@ -1,7 +1,7 @@
-use Rattle.std.proofs.Common.{◌≡◌, ◌+◌, ◌<◌, ◌^◌, length, get_or, sym, ap, ◌∙◌, arith}
+use Rattle.std.proofs.Common.{◌≡◌, length, get_or, sym, ap, ◌∙◌, arith}
 use Rattle.definitions_blocks.specs.Differences.{least_of}
-use Rattle.definitions_blocks.proofs.DifferenceLaws.{full_from}
-use Rattle.cascade_formats.proofs.Allowed.{reference_split, reference_zero, reference_fits}
+use Rattle.definitions_blocks.proofs.WordListLaws.{full_from}
+use Rattle.cascade_formats.proofs.ReferenceBlocks.{reference_split, reference_zero, reference_fits}
 use Rattle.cascade_formats.proofs.references.ReferenceTransform.allowed.Goals as goal
 
 pub returns-then-values-eq-BLOCK_LEN : goal.returns-then-values-eq-BLOCK_LEN

@@ -1,4 +1,4 @@
-use Rattle.cascade_formats.proofs.Allowed.{reference_joined}
+use Rattle.cascade_formats.proofs.ReferenceBlocks.{reference_joined}
 use Rattle.cascade_formats.proofs.references.ReferenceTransform.join.Goals as goal
 
 pub returns : goal.returns

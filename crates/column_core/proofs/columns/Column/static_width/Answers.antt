@@ -1,7 +1,7 @@
 use Rattle.std.proofs.Common.{◌≡◌, true, sym, subst, ◌∙◌}
 use Rattle.definitions_blocks.specs.Formats.{IsColumnWidth}
 use Rattle.definitions_columns.specs.ColumnFiles.{fits_columns}
-use Rattle.definitions_blocks.proofs.EncodingLaws.{AreBelow-words}
+use Rattle.definitions_blocks.proofs.WidthLaws.{AreBelow-words}
 use Rattle.definitions_columns.proofs.WidthLaws.{static_width_of-lawful, static_width_of-fits}
 use Rattle.block_core.specs.Formats.{format_of}
 use Rattle.column_core.specs.Columns.{Shape}

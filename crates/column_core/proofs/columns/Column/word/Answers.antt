@@ -2,7 +2,7 @@ use Rattle.std.proofs.Common.{◌≡◌, subst, ◌∙◌, arith}
 use Rattle.definitions_blocks.specs.Words.{words_of}
 use Rattle.definitions_blocks.specs.Formats.{plain}
 use Rattle.definitions_columns.specs.ColumnFiles.{IsEncoded}
-use Rattle.definitions_columns.proofs.PieceLaws.{encoded_size}
+use Rattle.definitions_columns.proofs.PlaceLaws.{encoded_size}
 use Rattle.block_core.specs.Formats.{format_of}
 use Rattle.column_core.specs.Columns.{Shape}
 use Rattle.column_core.proofs.PlainLemmas.{plain_words}

@@ -1,6 +1,6 @@
 use Rattle.std.proofs.Common.{◌≡◌, ◌-◌, ◌%◌, length, drop, ap, ap₂, arith, ◌∙◌}
 use Rattle.definitions_blocks.specs.Blocks.{block_values}
-use Rattle.definitions_columns.proofs.PieceLaws.{tail_place}
+use Rattle.definitions_columns.proofs.PlaceLaws.{tail_place}
 use Rattle.block_core.specs.Formats.{format_of}
 use Rattle.column_core.proofs.encodings.Encoded.tail_bytes.Goals as goal
 

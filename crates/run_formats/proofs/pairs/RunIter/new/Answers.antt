@@ -1,7 +1,7 @@
 use Rattle.std.proofs.Common.{◌≡◌, map, sym, ap, ◌∙◌, subst, arith}
 use Rattle.definitions_blocks.specs.Runs.{AreRunsOf}
 use Rattle.run_formats.specs.Cells.{count_in, run_in, cells_in}
-use Rattle.run_formats.proofs.CellLaws.{FrontRuns, block_runs}
+use Rattle.run_formats.proofs.FrontLaws.{FrontRuns, block_runs}
 use Rattle.run_formats.proofs.pairs.RunIter.new.Goals as goal
 
 pub run_count_in-requires : goal.run_count_in-requires

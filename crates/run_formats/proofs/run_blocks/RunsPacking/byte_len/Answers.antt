@@ -1,5 +1,5 @@
 use Rattle.std.proofs.Common.{◌+◌, ◌*◌, sym, ap, ◌∙◌}
-use Rattle.definitions_blocks.proofs.RunLaws.{IsRunsBlock-length}
+use Rattle.definitions_blocks.proofs.RunBlockLaws.{IsRunsBlock-length}
 use Rattle.run_formats.proofs.run_blocks.RunsPacking.byte_len.Goals as goal
 
 pub returns : goal.returns

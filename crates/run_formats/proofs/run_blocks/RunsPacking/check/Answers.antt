@@ -1,14 +1,14 @@
 use Rattle.std.proofs.Common.{◌≡◌, ◌+◌, ◌*◌, map, take, sym, ap, ◌∙◌, subst, arith}
 use Rattle.definitions_blocks.specs.Runs.{run_values, IsRunsBlock}
-use Rattle.definitions_blocks.proofs.RunLaws.{AreOctets}
+use Rattle.definitions_blocks.specs.Words.{AreOctets}
 use Rattle.run_formats.specs.Cells.{count_in, run_in, cells_in, BeginsWithRuns}
-use Rattle.run_formats.proofs.CellLaws.{FrontBlock, block_in_front, begins_with_block}
+use Rattle.run_formats.proofs.FrontLaws.{FrontBlock, block_in_front, begins_with_block}
 use Rattle.run_formats.proofs.run_blocks.RunsPacking.check.Goals as goal
 
 pub returns-in-Some : goal.returns-in-Some
 returns-in-Some c =
     let bytes = c.args.bytes.now in
-    let octets : AreOctets bytes = record { below = λ k. (c.type_inv.bytes k).fits } in
+    let octets : AreOctets bytes = λ k. (c.type_inv.bytes k).fits in
     let begins : BeginsWithRuns bytes = c.in-Some.ensures.0 in
     let runs : c.in-Some.runs ≡ count_in bytes = c.in-Some.ensures.1 in
     let values = run_values (map run_in (cells_in (count_in bytes) bytes)) in

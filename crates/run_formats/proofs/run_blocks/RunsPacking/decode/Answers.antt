@@ -2,7 +2,7 @@ use Rattle.std.proofs.Common.{◌≡◌, ◌++◌, length, take, drop, map, sym,
 use Rattle.std.proofs.lemmas.List.{take_at}
 use Rattle.definitions_blocks.specs.Runs.{run_values, IsRunsBlock}
 use Rattle.run_formats.specs.Cells.{run_in}
-use Rattle.run_formats.proofs.CellLaws.{FrontRuns, block_runs, block_values_in_cells}
+use Rattle.run_formats.proofs.FrontLaws.{FrontRuns, block_runs, block_values_in_cells}
 use Rattle.run_formats.proofs.run_blocks.RunsPacking.decode.Goals as goal
 
 pub cells_of-requires : goal.cells_of-requires

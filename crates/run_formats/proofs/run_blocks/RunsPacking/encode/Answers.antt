@@ -1,7 +1,8 @@
 use Rattle.std.proofs.Common.{◌≡◌, ◌-◌, ◌++◌, length, drop, flat_map, sym, ap, ap₂, ◌∙◌, subst, arith, length-append}
 use Rattle.std.proofs.lemmas.List.{length-take, length-drop}
-use Rattle.definitions_blocks.specs.Runs.{two_bytes, run_bytes, run_count, IsRunsBlock}
-use Rattle.definitions_blocks.proofs.RunLaws.{runs_of, length-two_bytes, length-runs_of, IsRunsBlock-length, IsRunsBlock-encoding}
+use Rattle.definitions_blocks.specs.Runs.{AreRunsOf, two_bytes, run_bytes, run_count, IsRunsBlock}
+use Rattle.definitions_blocks.proofs.RunListLaws.{AreRunsOf-count}
+use Rattle.definitions_blocks.proofs.RunBlockLaws.{length-two_bytes, IsRunsBlock-length}
 use Rattle.run_formats.proofs.Writes.{both_parts}
 use Rattle.run_formats.proofs.run_blocks.RunsPacking.encode.Goals as goal
 
@@ -27,7 +28,7 @@ slice_bounds-put_runs-count c =
 pub put_runs-requires-clause-size : goal.put_runs-requires-clause-size
 put_runs-requires-clause-size c =
     let all = c.put_count.new.into ++ drop 2 c.args.into.now in
-    let runs : length (runs_of c.as_slice.result.now) ≡ run_count c.args.full.now = ap (λ values. length (runs_of values)) c.as_slice.ensures.values ∙ length-runs_of c.args.full.now in
+    let runs : run_count c.as_slice.result.now ≡ run_count c.args.full.now = ap run_count c.as_slice.ensures.values in
     omega (
       arith,
       IsRunsBlock-length c.args.full.now c.requires.encoded.0 c.requires.encoded.1,
@@ -43,7 +44,8 @@ put_runs-requires-clause-size c =
 pub returns : goal.returns
 returns c =
     let values = c.args.full.now in
-    let head : c.put_count.new.into ≡ two_bytes (length (runs_of values)) = c.put_count.ensures ∙ ap two_bytes (c.requires.headed ∙ sym (length-runs_of values)) in
-    let body : c.put_runs.new.into ≡ flat_map run_bytes (runs_of values) = c.put_runs.ensures ∙ ap (λ list. flat_map run_bytes (runs_of list)) c.as_slice.ensures.values in
+    let is : IsRunsBlock values c.requires.encoded.0 = c.requires.encoded.1 in
+    let head : c.put_count.new.into ≡ two_bytes (length is.runs) = c.put_count.ensures ∙ ap two_bytes (c.requires.headed ∙ sym (AreRunsOf-count is.runs values is.are)) in
+    let body : c.put_runs.new.into ≡ flat_map run_bytes is.runs = c.put_runs.ensures is.runs (subst (AreRunsOf is.runs) (sym c.as_slice.ensures.values) is.are) in
     let all = both_parts 2 c.args.into.now c.put_count.new.into c.put_runs.new.into (ap length c.put_count.ensures ∙ length-two_bytes c.args.runs) ∙ ap₂ (λ a b. a ++ b) head body in
-    subst (IsRunsBlock values) (sym all) (IsRunsBlock-encoding values c.requires.encoded.1.full)
+    subst (IsRunsBlock values) (is.encoded ∙ sym all) is

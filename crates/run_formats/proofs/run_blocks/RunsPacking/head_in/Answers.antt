@@ -1,5 +1,5 @@
 use Rattle.std.proofs.Common.{arith, ◌∙◌}
-use Rattle.run_formats.proofs.CellLaws.{FrontRuns, block_runs}
+use Rattle.run_formats.proofs.FrontLaws.{FrontRuns, block_runs}
 use Rattle.run_formats.proofs.run_blocks.RunsPacking.head_in.Goals as goal
 
 pub run_count_in-requires : goal.run_count_in-requires
