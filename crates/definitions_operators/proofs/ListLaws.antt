@@ -1,9 +1,9 @@
 -- Filters and maps of lists, members, and rising lists.
 use Rattle.std.proofs.Common.{◌≡◌, ◌∙◌, ap, ap₂, refl, sym, subst, ℕ, suc, ◌<◌, Bool, true, false, cond, All, List, [], ◌∷◌, map, get_or, arith, inl, inr, ◌⊎◌, add-one}
 use Rattle.std.specs.Prelude.{filter, Contains}
-use Rattle.std.specs.List.Sorted.{IsStrictlyIncreasing}
 use Rattle.std.proofs.lemmas.List.Elements.{All-head, All-tail, Contains-append_right, Contains-append_cases}
 use Rattle.std.proofs.lemmas.List.Kept.{AllPairs-from_increasing}
+use Rattle.definitions_operators.specs.Positions.{Rises}
 
 pub filter-map : {A B : Type 0} (test : B → Bool) (f : A → B) (xs : List A) → filter test (map f xs) ≡ map f (filter (λ x. test (f x)) xs)
 filter-map test f [] = refl
@@ -54,12 +54,12 @@ Contains-filter test (y ∷ xs) x passes among =
     ]
 
 -- a rising list begins with its least number, and what follows rises
-head-below : (x : ℕ) (xs : List ℕ) → IsStrictlyIncreasing (x ∷ xs) → (y : ℕ) → Contains xs y → x < y
+head-below : (x : ℕ) (xs : List ℕ) → Rises (x ∷ xs) → (y : ℕ) → Contains xs y → x < y
 head-below x xs rises y among =
     let pairs = AllPairs-from_increasing (x ∷ xs) rises in
     subst (λ z. x < z) among.2 (pairs 0 (suc among.0) y (omega arith) (omega (arith, among.1)))
 
-tail-rises : (x : ℕ) (xs : List ℕ) → IsStrictlyIncreasing (x ∷ xs) → IsStrictlyIncreasing xs
+tail-rises : (x : ℕ) (xs : List ℕ) → Rises (x ∷ xs) → Rises xs
 tail-rises x xs rises k within = rw add-one (rw add-one at (rises (suc k) (omega arith)))
 
 later_member : (x y z : ℕ) (ys : List ℕ) → x ≡ y → x < z → Contains (y ∷ ys) z → Contains ys z
@@ -67,7 +67,7 @@ later_member x y z ys same above among =
     elim (Contains-cons_cases y ys z among) [ inl here ↦ absurd (omega (arith, here)) | inr later ↦ later ]
 
 -- rising lists with the same members are one list
-pub rising-same : (xs ys : List ℕ) → IsStrictlyIncreasing xs → IsStrictlyIncreasing ys → ((z : ℕ) → Contains xs z → Contains ys z) → ((z : ℕ) → Contains ys z → Contains xs z) → xs ≡ ys
+pub rising-same : (xs ys : List ℕ) → Rises xs → Rises ys → ((z : ℕ) → Contains xs z → Contains ys z) → ((z : ℕ) → Contains ys z → Contains xs z) → xs ≡ ys
 rising-same [] [] up vp to from = refl
 rising-same [] (y ∷ ys) up vp to from = absurd (Contains-nil y (from y (Contains-head y ys)))
 rising-same (x ∷ xs) [] up vp to from = absurd (Contains-nil x (to x (Contains-head x xs)))

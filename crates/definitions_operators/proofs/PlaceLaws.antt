@@ -2,13 +2,12 @@
 use Rattle.std.proofs.Common.{◌≡◌, ◌∙◌, ap, ap₂, refl, sym, subst, ℕ, zero, suc, ◌+◌, ◌<◌, ◌≤◌, Bool, true, false, cond, not, All, List, [], ◌∷◌, ◌++◌, map, length, get_or, arith}
 use Rattle.std.specs.Prelude.{filter, Contains}
 use Rattle.std.specs.List.{range_with_len}
-use Rattle.std.specs.List.Sorted.{IsStrictlyIncreasing}
 use Rattle.std.proofs.lemmas.List.Elements.{All-contains, All-filter, All-from_get_or, filter-append, filter_passes}
 use Rattle.std.proofs.lemmas.List.Filters.{length-filter_both}
 use Rattle.std.proofs.lemmas.List.FromFn.{length-range_with_len, get_or-range_with_len, fill_by_all}
 use Rattle.std.proofs.lemmas.List.Kept.{IsStrictlyIncreasing-filter}
 use Rattle.definitions_operators.specs.Operators.{places, places_where}
-use Rattle.definitions_operators.specs.Positions.{IsPositionList}
+use Rattle.definitions_operators.specs.Positions.{Rises, IsPositionList, OnePositionList}
 use Rattle.definitions_operators.proofs.ListLaws.{filter-map, filter-same, Contains-filter, rising-same}
 
 -- # Places
@@ -17,7 +16,7 @@ pub length-places : (n : ℕ) → length (places n) ≡ n
 length-places n = length-range_with_len 0 n
 
 -- the place at k is k
-get_or-places : (n k d : ℕ) → k < n → get_or (places n) k d ≡ k
+pub get_or-places : (n k d : ℕ) → k < n → get_or (places n) k d ≡ k
 get_or-places n k d below = let at = get_or-range_with_len 0 n k d below in omega arith
 
 pub places-below : (n : ℕ) → All (λ place. place < n) (places n)
@@ -26,7 +25,7 @@ places-below n = All-from_get_or (λ place. place < n) (places n) 0 (λ k within
 pub Contains-places : (n place : ℕ) → place < n → Contains (places n) place
 Contains-places n place below = (place, omega (arith, length-places n), get_or-places n place place below)
 
-places-rise : (n : ℕ) → IsStrictlyIncreasing (places n)
+pub places-rise : (n : ℕ) → Rises (places n)
 places-rise n k within =
     let here = get_or-places n k 0 (omega (arith, length-places n)) in
     let next = get_or-places n (k + 1) 0 (omega (arith, length-places n)) in
@@ -55,7 +54,7 @@ places_where-below test n = All-filter test (λ place. place < n) (places n) (pl
 pub places_where-pass : (test : ℕ → Bool) (n : ℕ) → All (λ place. test place ≡ true) (places_where test n)
 places_where-pass test n = filter_passes test (places n)
 
-pub places_where-rise : (test : ℕ → Bool) (n : ℕ) → IsStrictlyIncreasing (places_where test n)
+pub places_where-rise : (test : ℕ → Bool) (n : ℕ) → Rises (places_where test n)
 places_where-rise test n = IsStrictlyIncreasing-filter test (places n) (places-rise n)
 
 -- they are at most n
@@ -115,7 +114,7 @@ IsPositionList-same test n xs ys one other =
     (λ place among. (other.members place).1 ((one.members place).0 among))
     (λ place among. (one.members place).1 ((other.members place).0 among))
 
-pub one_position_list : Rattle.definitions_operators.specs.Positions.OnePositionList
+pub one_position_list : OnePositionList
 one_position_list test n positions = (
   λ is. IsPositionList-same test n positions (places_where test n) is (IsPositionList-places_where test n),
   λ same. subst (IsPositionList test n) (sym same) (IsPositionList-places_where test n),

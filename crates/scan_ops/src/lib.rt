@@ -3,10 +3,10 @@
 //! A position list is a rising list of rows, counted from 0. The plain forms here work on whole slices.
 #![tactic(auto)]
 
-mod positions;
+mod laws;
 mod projection;
 mod selection;
 
-pub use positions::one_position_list;
+pub use laws::one_position_list;
 pub use projection::project;
 pub use selection::select;
