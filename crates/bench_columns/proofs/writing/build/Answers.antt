@@ -3,12 +3,13 @@ use Rattle.definitions_blocks.specs.Formats.{IsColumnWidth}
 use Rattle.definitions_columns.specs.ColumnFiles.{fits_columns}
 use Rattle.block_core.specs.Formats.{format_of}
 use Rattle.column_core.specs.Columns.{Encoding}
-use Rattle.bench_columns.proofs.Widths.{static_width_of-lawful, next_fits}
+use Rattle.definitions_columns.proofs.WidthLaws.{static_width_of-lawful}
+use Rattle.bench_columns.proofs.Widths.{next_fits}
 use Rattle.bench_columns.proofs.writing.build.Goals as goal
 
 pub new-requires : goal.new-requires
 new-requires c =
-    let lawful = static_width_of-lawful (format_of c.args.format) c.args.values.now (λ i. (c.type_inv.values i).fits) in
+    let lawful = static_width_of-lawful (format_of c.args.format) c.args.values.now (λ i within. (c.type_inv.values i).fits) in
     subst (IsColumnWidth (format_of c.args.format)) (sym c.requires.width) lawful
 
 pub push-requires-clause-in_scope : goal.push-requires-clause-in_scope
