@@ -1,41 +1,23 @@
 -- How a reader goes on by a block.
-use Rattle.std.proofs.Common.{◌≡◌, ℕ, zero, suc, ◌+◌, ◌-◌, ◌*◌, ◌/◌, ◌%◌, ◌<◌, ◌≤◌, List, [], ◌∷◌, ◌++◌, length, take, drop, get_or, IfSome, refl, sym, ap, ap₂, ◌∙◌, arith, length-append, append_assoc}
+use Rattle.std.proofs.Common.{◌≡◌, ℕ, ◌+◌, ◌-◌, ◌*◌, ◌/◌, ◌%◌, ◌<◌, ◌≤◌, List, [], ◌∷◌, ◌++◌, length, take, drop, get_or, IfSome, refl, sym, ap, ap₂, ◌∙◌, arith, length-append, append_assoc}
 use Rattle.std.proofs.lemmas.List.{take-append-drop, drop-drop, length-take, length-drop}
 use Rattle.definitions_blocks.specs.Blocks.{block_values}
-use Rattle.definitions_columns.specs.ColumnFiles.{column_head, whole_blocks, Piece, piece_values, piece_bytes, head_len, static_width_of, IsColumnFile, IsIndexed, next_width}
+use Rattle.definitions_columns.specs.ColumnFiles.{column_head, Piece, piece_values, piece_bytes, head_len, static_width_of, IsColumnFile, IsIndexed, next_width}
 use Rattle.definitions_blocks.specs.Packed.{IsPacked, IsWidth}
-use Rattle.definitions_blocks.specs.Encodings.{width_of}
-use Rattle.definitions_blocks.specs.Formats.{Format, plain, static, dynamic, runs, delta1_dynamic, delta16_dynamic, reference_dynamic, delta1_runs, tag_of, BlockOf, LacksBlock}
-use Rattle.definitions_columns.specs.FileFaults.{IsHead, StopsAt, HasBlocks, FileFault, bad_header, bad_block, bad_width, bad_tail, HasFileFault}
-use Rattle.definitions_blocks.proofs.WidthLaws.{width_of-is}
+use Rattle.definitions_blocks.specs.Formats.{Format, tag_of, BlockOf, LacksBlock}
+use Rattle.definitions_columns.specs.FileFaults.{IsHead, Opening, StopsAt, HasBlocks, FileFault, bad_header, bad_block, bad_width, bad_tail, HasFileFault}
 use Rattle.definitions_blocks.proofs.WordLaws.{AreOctets-drop}
 use Rattle.definitions_blocks.proofs.BlockLaws.{BlockOf-full}
 use Rattle.definitions_columns.proofs.ColumnFileLaws.{length-piece_values}
 use Rattle.definitions_columns.proofs.GrowthLaws.{ArePieces-push, piece_values-push, piece_bytes-push, starts_from-push}
 use Rattle.definitions_columns.proofs.FaultLaws.{HasFileFault-none, HasFileFault-one}
-use Rattle.definitions_columns.proofs.WidthLaws.{static_width_of-push}
+use Rattle.definitions_columns.proofs.WidthLaws.{static_width_of-empty, static_width_of-push}
 use Rattle.definitions_columns.proofs.OpeningLaws.{pieces_words, opening_values, file_of_opening}
 use Rattle.column_core.specs.Heads.{BeginsWithHead}
 use Rattle.column_file.specs.Reading.{ReadSo}
 use Rattle.column_file.specs.Faults.{fault_of, Says}
 use Rattle.column_file.specs.declared.reading.ColumnError.{ColumnError}
 use Rattle.column_file.specs.declared.reading.ColumnError.TheVariants as error
-
-take_nil : (n : ℕ) → take {A = ℕ} n [] ≡ []
-take_nil zero = refl
-take_nil (suc n) = refl
-
-empty_width : (format : Format) → 0 ≡ static_width_of format []
-empty_width plain = refl
-empty_width static =
-    let none : whole_blocks [] ≡ [] = take_nil (length {A = ℕ} [] / block_values * block_values) in
-    sym (ap width_of none ∙ width_of-is 0 [] (record { holds = λ i within. absurd (omega arith); least = λ other small. omega arith }) (omega arith))
-empty_width dynamic = refl
-empty_width runs = refl
-empty_width delta1_dynamic = refl
-empty_width delta16_dynamic = refl
-empty_width reference_dynamic = refl
-empty_width delta1_runs = refl
 
 -- nothing was read
 pub read_none : (format : Format) (width count : ℕ) (bytes starts : List ℕ) → BeginsWithHead format width count bytes → starts ≡ [] → ReadSo format width count 0 16 0 bytes starts
@@ -47,23 +29,27 @@ read_none format width count bytes starts begins none = record {
   within = begins.within;
   bytes_are = begins.bytes_are;
   starts_are = none;
-  widest_is = empty_width format;
+  widest_is = sym (static_width_of-empty format);
+}
+
+-- a head, the blocks so far, and what follows them
+abbrev opening_read : (format : Format) (width count number place widest : ℕ) (bytes starts : List ℕ) → IsHead format width count → ReadSo format width count number place widest bytes starts → Opening bytes
+opening_read format width count number place widest bytes starts head so = record {
+  format = format;
+  width = width;
+  count = count;
+  head = head;
+  pieces = so.pieces;
+  blocks = so.blocks;
+  rest = drop place bytes;
+  bytes_are = so.bytes_are;
 }
 
 -- the next block is none
 pub stops_here : (format : Format) (width count number place widest : ℕ) (bytes starts : List ℕ) → IsHead format width count → ReadSo format width count number place widest bytes starts
     → number < count / block_values → LacksBlock format width (drop place bytes) → StopsAt bytes number
 stops_here format width count number place widest bytes starts head so more none = record {
-  opening = record {
-    format = format;
-    width = width;
-    count = count;
-    head = head;
-    pieces = so.pieces;
-    blocks = so.blocks;
-    rest = drop place bytes;
-    bytes_are = so.bytes_are;
-  };
+  opening = opening_read format width count number place widest bytes starts head so;
   good = so.many;
   more = more;
   stops = none;
@@ -105,16 +91,7 @@ packed_width width own values bytes packed is = is.least width packed.small
 -- all blocks that the head tells of were read
 pub has_blocks : (format : Format) (width count place widest : ℕ) (bytes starts : List ℕ) → IsHead format width count → (so : ReadSo format width count (count / block_values) place widest bytes starts) → HasBlocks bytes
 has_blocks format width count place widest bytes starts head so = record {
-  opening = record {
-    format = format;
-    width = width;
-    count = count;
-    head = head;
-    pieces = so.pieces;
-    blocks = so.blocks;
-    rest = drop place bytes;
-    bytes_are = so.bytes_are;
-  };
+  opening = opening_read format width count (count / block_values) place widest bytes starts head so;
   all = so.many;
 }
 

@@ -1,7 +1,7 @@
 -- The static width of a column is one that its format can have, its whole blocks fit it, and how it grows by a block.
-use Rattle.std.proofs.Common.{◌≡◌, ℕ, ◌+◌, ◌-◌, ◌*◌, ◌/◌, ◌%◌, ◌≤◌, max, Bool, true, false, if◌then◌else◌, List, ◌++◌, length, take, drop, refl, sym, ap, ◌∙◌, subst, arith, length-append}
+use Rattle.std.proofs.Common.{◌≡◌, ℕ, ◌+◌, ◌-◌, ◌*◌, ◌/◌, ◌%◌, ◌≤◌, max, Bool, true, false, if◌then◌else◌, List, [], ◌++◌, length, take, drop, refl, sym, ap, ◌∙◌, subst, arith, length-append}
 use Rattle.std.specs.List.{AllByRecursion}
-use Rattle.std.proofs.lemmas.List.{take-append-drop, take-append-le, take-take, drop-take, take_all}
+use Rattle.std.proofs.lemmas.List.{take-append-drop, take-append-le, take-take, drop-take, take_all, nil_from_length}
 use Rattle.definitions_blocks.specs.Words.{IsWord}
 use Rattle.definitions_blocks.specs.Blocks.{block_values}
 use Rattle.definitions_blocks.specs.Packed.{AreBelow}
@@ -83,6 +83,15 @@ fits_front false width values rest fits = refl
 -- where a list fits the column's width, its prefixes do
 pub fits_columns-front : (format : Format) (width : ℕ) (values rest : List ℕ) → fits_columns format width (values ++ rest) ≡ true → fits_columns format width values ≡ true
 fits_columns-front format width values rest fits = fits_front (has_static_width format) width values rest fits
+
+empty_where : (packed : Bool) → (if packed then width_of [] else 0) ≡ 0
+empty_where true = width_of-is 0 [] (record { holds = λ i within. absurd (omega arith); least = λ other small. omega arith }) (omega arith)
+empty_where false = refl
+
+-- no values ask for no width
+pub static_width_of-empty : (format : Format) → static_width_of format [] ≡ 0
+static_width_of-empty format =
+    ap (λ l. if has_static_width format then width_of l else 0) (nil_from_length (whole_blocks []) refl) ∙ empty_where (has_static_width format)
 
 -- lists with the same whole blocks ask for the same width
 pub static_width_of-blocks : (format : Format) (values others : List ℕ) → whole_blocks values ≡ whole_blocks others → static_width_of format values ≡ static_width_of format others
