@@ -1,28 +1,31 @@
 -- Where a table's rows stand.
-use Rattle.std.specs.Prelude.{◌≡◌, ℕ, ◌≤◌, ◌⊎◌, List, ◌∷◌, ◌++◌, length, codes}
+use Rattle.std.specs.Prelude.{ℕ, Bool, ◌&&◌, ◌||◌, ◌==◌, nat_le, List, ◌∷◌, ◌++◌, drop, slice_index, codes, Option, Some, None, if◌then◌else◌}
+use Rattle.std.specs.Int.{from_le_bytes, w64}
+use Rattle.std.specs.Str.{bytes_eq}
 use Rattle.definitions_blocks.specs.Columns.{max_rows}
 use Rattle.definitions_blocks.specs.Words.{word_bytes}
 
--- how many bytes are read of a now file and of a column file at most
+-- how many bytes are read of a now file at most
 abbrev pub max_now_file : ℕ
 max_now_file = 13
 
-abbrev pub max_column_file : ℕ
-max_column_file = 4294967296
-
--- where a table's rows stand now: its slot, the letter `a` or `b`, and how many there are
+-- the slot that holds a table's rows, the letter `a` or `b`, and how many rows there are
 pub record Now : Type 0 where
   pub slot : ℕ
   pub rows : ℕ
 
-abbrev pub IsSlot : ℕ → Type 0
-IsSlot letter = (letter ≡ 97) ⊎ (letter ≡ 98)
+abbrev pub is_slot : ℕ → Bool
+is_slot letter = letter == 97 || letter == 98
 
--- the 13 bytes of a now file
+-- the 13 bytes of a now file: `MNOW`, the letter and the number
 abbrev pub now_file : Now → List ℕ
 now_file now = codes "MNOW" ++ now.slot ∷ word_bytes now.rows
 
-pub record IsNowFile (bytes : List ℕ) (now : Now) : Type 0 where
-  pub slot : IsSlot now.slot
-  pub few : now.rows ≤ max_rows
-  pub encoded : bytes ≡ now_file now
+-- what stands at the letter's and the number's places
+abbrev pub now_at : List ℕ → Now
+now_at bytes = record { slot = slice_index bytes 4; rows = from_le_bytes w64 (drop 5 bytes) }
+
+-- what a now file says: nothing where the bytes are no now file
+abbrev pub now_in : List ℕ → Option Now
+now_in bytes =
+    if is_slot (now_at bytes).slot && nat_le (now_at bytes).rows max_rows && bytes_eq bytes (now_file (now_at bytes)) then Some (now_at bytes) else None

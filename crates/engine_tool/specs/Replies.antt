@@ -1,49 +1,49 @@
--- What each command answers, for an outside that doesn't fail.
-use Rattle.std.specs.Prelude.{◌≡◌, ℕ, ◌≤◌, List, [], ◌∷◌, ◌++◌, length, codes, decimal, Option, Some, None, Result, Ok, Err}
+-- What each command answers, for an outside that does not fail.
+use Rattle.std.specs.Prelude.{◌≡◌, ℕ, ◌^◌, ◌==◌, nat_le, nat_lt, List, [], ◌++◌, length, sum, codes, decimal, Option, Some, None, Result, Ok, Err, ok_or, if◌then◌else◌}
 use Rattle.definitions_blocks.specs.Formats.{Format}
 use Rattle.definitions_columns.specs.ColumnFiles.{IsColumnFile}
 use Rattle.definitions_columns.specs.FileFaults.{FileFault, bad_header, bad_block, bad_width, bad_tail, HasFileFault}
-use Rattle.stream_core.specs.Names.{now_file_name, column_file_name}
+use Rattle.definitions_operators.specs.Sums.{kept_values, sum_over}
 use Rattle.stream_core.specs.Files.{Files}
-use Rattle.engine_tool.specs.NowFiles.{Now, IsNowFile, max_column_file}
-use Rattle.engine_tool.specs.Queries.{Condition, Query, Spells, max_query}
-use Rattle.definitions_operators.specs.Sums.{kept_values, IsSum}
+use Rattle.stream_core.specs.Names.{now_file_name, column_file_name}
 use Rattle.engine_tool.specs.Answers.{answer_text}
-use Rattle.engine_tool.specs.Outcomes.{Refusal, Outcomes, OneOr, Then, Gives}
+use Rattle.engine_tool.specs.Commands as commands
+use Rattle.engine_tool.specs.Commands.{Command}
+use Rattle.engine_tool.specs.NowFiles.{Now, now_in}
+use Rattle.engine_tool.specs.Outcomes as outcomes
+use Rattle.engine_tool.specs.Outcomes.{Refusal, Outcomes, Gives, OneOr, OneOrFault, Then, bind, status_of_kind}
+use Rattle.engine_tool.specs.Queries.{Condition, Query, Spells, max_query}
+
+-- how many bytes are read of a column file at most
+abbrev pub max_column_file : ℕ
+max_column_file = 4294967296
 
 -- the refusals
-abbrev pub bad_usage : Refusal
-bad_usage = record { status = 2; line = codes "usage: see morphq help\n" }
-
 abbrev pub bad_query : Refusal
-bad_query = record { status = 1; line = codes "query: not built\n" }
+bad_query = record { kind = outcomes.query_text; line = codes "query: not built\n" }
 
 -- a file of the table that is absent or out of form
 abbrev pub bad_file : List ℕ → List ℕ → Refusal
-bad_file name what = record { status = 4; line = codes "database: " ++ name ++ codes ": " ++ what ++ codes "\n" }
+bad_file name what = record { kind = outcomes.database; line = codes "database: " ++ name ++ codes ": " ++ what ++ codes "\n" }
 
 abbrev pub sum_too_wide : Refusal
-sum_too_wide = record { status = 5; line = codes "sum 1 operand 1 group 1: too wide\n" }
+sum_too_wide = record { kind = outcomes.sum; line = codes "sum 1 operand 1 group 1: too wide\n" }
 
--- the words denote the command `query`
-abbrev pub IsQueryCommand : List (List ℕ) → Type 0
-IsQueryCommand words = words ≡ codes "query" ∷ []
-
--- the words denote a command
-abbrev pub CommandOf : List (List ℕ) → Outcomes (Unit {0})
-CommandOf words = OneOr (λ _. IsQueryCommand words) bad_usage
+-- bytes that are not too long
+abbrev pub limited : ℕ → Refusal → List ℕ → Result (List ℕ) Refusal
+limited limit refusal bytes = if nat_le (length bytes) limit then Ok bytes else Err refusal
 
 -- the query of a text: the text is not too long, and spells one
 abbrev pub QueryOf : List ℕ → Outcomes Query
-QueryOf text = Then (OneOr (λ (_ : Unit {0}). length text ≤ max_query) bad_query) (λ _. OneOr (Spells text) bad_query)
+QueryOf text = Then (Gives (limited max_query bad_query text)) (λ query. OneOr (Spells query) bad_query)
 
 -- the bytes of a file
-abbrev pub FileOf : Files → List ℕ → Outcomes (List ℕ)
-FileOf files name = OneOr (λ bytes. files name ≡ Some bytes) (bad_file name (codes "no file"))
+abbrev pub file_of : Files → List ℕ → Result (List ℕ) Refusal
+file_of files name = ok_or (files name) (bad_file name (codes "no file"))
 
 -- where the table's rows stand
-abbrev pub NowOf : Files → List ℕ → Outcomes Now
-NowOf files table = Then (FileOf files (now_file_name table)) (λ bytes. OneOr (IsNowFile bytes) (bad_file (now_file_name table) (codes "bad now")))
+abbrev pub now_of : Files → List ℕ → Result Now Refusal
+now_of files table = bind (file_of files (now_file_name table)) (λ bytes. ok_or (now_in bytes) (bad_file (now_file_name table) (codes "bad now")))
 
 -- what is said of a fault of a column file
 abbrev pub fault_text : FileFault → List ℕ
@@ -52,58 +52,101 @@ fault_text (bad_block block) = codes "bad block " ++ decimal block
 fault_text bad_width = codes "bad width"
 fault_text bad_tail = codes "bad tail"
 
--- the column whose file the bytes are, in any format, or their first fault
+-- the bytes of a column file
+abbrev pub column_bytes : Files → List ℕ → Result (List ℕ) Refusal
+column_bytes files name = bind (file_of files name) (limited max_column_file (bad_file name (codes "too long")))
+
+-- the bytes are the file of this column in some format
+abbrev pub IsFileOf : List ℕ → List ℕ → Type 0
+IsFileOf bytes values = (format : Format) × IsColumnFile format values bytes
+
+-- the column whose file the bytes are, or their first fault
 abbrev pub ValuesOf : List ℕ → List ℕ → Outcomes (List ℕ)
-ValuesOf name bytes (Ok values) = (format : Format) × IsColumnFile format values bytes
-ValuesOf name bytes (Err refusal) = (fault : FileFault) × HasFileFault bytes fault × (refusal ≡ bad_file name (fault_text fault))
+ValuesOf name bytes = OneOrFault (IsFileOf bytes) (HasFileFault bytes) (λ fault. bad_file name (fault_text fault))
 
--- the bytes of a column file, which may not be too long
-abbrev pub ColumnBytesOf : Files → List ℕ → Outcomes (List ℕ)
-ColumnBytesOf files name =
-    Then (FileOf files name) (λ bytes. OneOr (λ held. (held ≡ bytes) × (length bytes ≤ max_column_file)) (bad_file name (codes "too long")))
+-- one value for each row
+abbrev pub for_rows : List ℕ → ℕ → List ℕ → Result (List ℕ) Refusal
+for_rows name rows values = if length values == rows then Ok values else Err (bad_file name (codes "length"))
 
--- the values of a column, one for each row
+-- a column of the table, read from its file
 abbrev pub RowsOf : List ℕ → ℕ → List ℕ → Outcomes (List ℕ)
-RowsOf name rows bytes =
-    Then (ValuesOf name bytes) (λ values. OneOr (λ held. (held ≡ values) × (length values ≡ rows)) (bad_file name (codes "length")))
+RowsOf name rows bytes = Then (ValuesOf name bytes) (λ values. Gives (for_rows name rows values))
 
 abbrev pub ColumnOf : Files → List ℕ → Now → List ℕ → Outcomes (List ℕ)
 ColumnOf files table now column =
-    Then (ColumnBytesOf files (column_file_name table now.slot column)) (RowsOf (column_file_name table now.slot column) now.rows)
+    Then (Gives (column_bytes files (column_file_name table now.slot column))) (RowsOf (column_file_name table now.slot column) now.rows)
+
+-- the columns of a query: the one that is summed, and the one that is tested, where there is a condition
+pub record Loaded : Type 0 where
+  pub summed : List ℕ
+  pub tested : Option (List ℕ)
+
+abbrev pub TestedOf : Files → List ℕ → Now → List ℕ → Option Condition → Outcomes Loaded
+TestedOf files table now summed None = Gives (Ok (record { summed = summed; tested = None }))
+TestedOf files table now summed (Some condition) =
+    Then (ColumnOf files table now condition.tested) (λ tested. Gives (Ok (record { summed = summed; tested = Some tested })))
+
+abbrev pub LoadedOf : Files → Query → Outcomes Loaded
+LoadedOf files query =
+    Then (Gives (now_of files query.table)) (λ now.
+    Then (ColumnOf files query.table now query.summed) (λ summed. TestedOf files query.table now summed query.condition))
 
 -- the values that are summed: those of all rows, or of the rows that meet the condition
-abbrev pub KeptOf : Files → List ℕ → Now → List ℕ → Option Condition → Outcomes (List ℕ)
-KeptOf files table now summed None = Gives summed
-KeptOf files table now summed (Some condition) =
-    Then (ColumnOf files table now condition.tested) (λ tested. Gives (kept_values summed tested condition.low condition.high))
+abbrev pub kept_in : Option Condition → Loaded → List ℕ
+kept_in None loaded = loaded.summed
+kept_in (Some condition) loaded = kept_of_tested loaded.summed loaded.tested condition.low condition.high where
+  kept_of_tested : List ℕ → Option (List ℕ) → ℕ → ℕ → List ℕ
+  kept_of_tested summed None low high = []
+  kept_of_tested summed (Some tested) low high = kept_values summed tested low high
 
-abbrev pub SummedOf : Files → Query → Outcomes (List ℕ)
-SummedOf files query =
-    Then (NowOf files query.table) (λ now.
-    Then (ColumnOf files query.table now query.summed) (λ summed.
-    KeptOf files query.table now summed query.condition))
+-- the answer over the values that are summed
+abbrev pub answer_over : List ℕ → Result (List ℕ) Refusal
+answer_over kept = if nat_lt (sum kept) (2 ^ 64) then Ok (answer_text (sum_over kept)) else Err sum_too_wide
 
--- the answer to a query over the values that it sums
-abbrev pub AnswerOf : List ℕ → Outcomes (List ℕ)
-AnswerOf kept = Then (OneOr (IsSum kept) sum_too_wide) (λ total. Gives (answer_text total))
+-- the answer to a query
+abbrev pub AnswerOf : Files → Query → Outcomes (List ℕ)
+AnswerOf files query = Then (LoadedOf files query) (λ loaded. Gives (answer_over (kept_in query.condition loaded)))
 
 -- the answer to `query`
 abbrev pub QueryReply : Files → List ℕ → Outcomes (List ℕ)
-QueryReply files text = Then (QueryOf text) (λ query. Then (SummedOf files query) AnswerOf)
+QueryReply files text = Then (QueryOf text) (AnswerOf files)
 
--- the answer to any words: the command's, and none other changes the files
-abbrev pub CommandReply : List (List ℕ) → Files → List ℕ → Outcomes (List ℕ)
-CommandReply words files text = Then (CommandOf words) (λ _. QueryReply files text)
+-- an answer: what is written, and the files afterwards
+pub record Answer : Type 0 where
+  pub text : List ℕ
+  pub files : Files
 
--- what a command answers: the exit status, what is written, and the files afterwards
+-- the answer of a command that saves nothing
+abbrev pub unchanged : Files → Result (List ℕ) Refusal → Result Answer Refusal
+unchanged files (Ok text) = Ok (record { text = text; files = files })
+unchanged files (Err refusal) = Err refusal
+
+-- what a command answers
+abbrev pub Means : Command → Files → List ℕ → Outcomes Answer
+Means commands.query files text end = (given : Result (List ℕ) Refusal) × QueryReply files text given × (end ≡ unchanged files given)
+
+-- what any words answer: the exit status, what is written, and the files afterwards
 pub record Reply : Type 0 where
   pub status : ℕ
   pub text : List ℕ
   pub files : Files
 
-abbrev pub reply_of : Files → Result (List ℕ) Refusal → Reply
-reply_of files (Ok text) = record { status = 0; text = text; files = files }
-reply_of files (Err refusal) = record { status = refusal.status; text = refusal.line; files = files }
+abbrev pub usage_line : List ℕ
+usage_line = codes "usage: see morphq help\n"
 
-abbrev pub Replies : List (List ℕ) → Files → List ℕ → Reply → Type 0
-Replies words files text reply = (end : Result (List ℕ) Refusal) × CommandReply words files text end × (reply ≡ reply_of files end)
+abbrev pub reply_of : Files → Result Answer Refusal → Reply
+reply_of files (Ok answer) = record { status = 0; text = answer.text; files = answer.files }
+reply_of files (Err refusal) = record { status = status_of_kind refusal.kind; text = refusal.line; files = files }
+
+abbrev pub Replies : Option Command → Files → List ℕ → Reply → Type 0
+Replies None files text reply = reply ≡ record { status = 2; text = usage_line; files = files }
+Replies (Some command) files text reply = (end : Result Answer Refusal) × Means command files text end × (reply ≡ reply_of files end)
+
+-- the text is refused before a file is loaded
+abbrev pub RefusesText : Option Command → List ℕ → Type 0
+RefusesText None text = ⊥
+RefusesText (Some commands.query) text = (asked : Query) → QueryOf text (Ok asked) → ⊥
+
+-- a command has one reply at most
+abbrev pub OneReply : Type 0
+OneReply = (command : Option Command) (files : Files) (text : List ℕ) (reply other : Reply) → Replies command files text reply → Replies command files text other → reply ≡ other

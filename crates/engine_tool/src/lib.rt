@@ -4,8 +4,10 @@
 //! of an answer is written before all of it is made.
 #![tactic(auto)]
 
-mod database;
+mod commands;
 mod decoding;
+mod laws;
+mod loading;
 mod now_file;
 mod replies;
 mod running;
@@ -13,4 +15,5 @@ mod stops;
 mod sums;
 mod text;
 
+pub use laws::one_reply;
 pub use running::run;

@@ -1,10 +1,9 @@
 //! The now file of a table: `MNOW`, the letter of a slot, and a row count of 8 bytes, the little end first.
 
-ghost use Rattle.std.specs.Prelude.{◌≡◌, drop, length, MatchOption};
+ghost use Rattle.std.specs.Prelude.{◌≡◌, true, false, drop, length, option_map, MatchOption};
 ghost use Rattle.std.specs.Int.{from_le_bytes, w64};
-ghost use Rattle.engine_tool.specs.NowFiles as databases;
-ghost use Rattle.engine_tool.specs.NowFiles.{IsSlot, now_file, IsNowFile};
-ghost use Rattle.engine_tool.specs.Tables.{letter_of, now_view};
+ghost use Rattle.engine_tool.specs.NowFiles.{is_slot, now_file, now_in};
+ghost use Rattle.engine_tool.specs.Views.{letter_of, now_view};
 
 use block_core::MAX_ROWS;
 
@@ -40,7 +39,7 @@ const ROWS_AT: usize = 5;
 
 /// The slot of a letter.
 fn slot_of(letter: u8) -> Option<Slot>
-    ensures { MatchOption result (IsSlot letter → ⊥) (λ slot. letter ≡ letter_of slot) }
+    ensures { MatchOption result (is_slot letter ≡ false) (λ slot. (is_slot letter ≡ true) × (letter ≡ letter_of slot)) }
 {
     match letter {
         b'a' => Some(Slot::A),
@@ -85,8 +84,7 @@ fn now_file(slot: Slot, rows: u64) -> [u8; 13]
 
 /// What a now file says, where the bytes are one: they are compared with the file of the slot and the count that they name.
 pub fn read_now(bytes: &[u8]) -> Option<Now>
-    ensures { MatchOption result ((now : databases.Now) → IsNowFile bytes.now now → ⊥)
-        (λ now. IsNowFile bytes.now (now_view now)) }
+    ensures { option_map now_view result ≡ now_in bytes.now }
 {
     if bytes.len() != NOW_LEN {
         return None;

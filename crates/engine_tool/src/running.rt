@@ -1,8 +1,9 @@
 //! The top call.
 
 ghost use Rattle.std.specs.Prelude.{◌≡◌, map, string_bytes};
-ghost use Rattle.engine_tool.specs.Headline.{IsReplied, ReadsInput, ChangesNoFile, HasFault, SaysFault, SaysMemory, IsComplete};
-ghost use Rattle.engine_tool.specs.Runs.{outside, IsWritten};
+ghost use Rattle.engine_tool.specs.Commands.{command_in};
+ghost use Rattle.engine_tool.specs.Promises.{Inside, Promises};
+ghost use Rattle.engine_tool.specs.Stops.{outside, IsWritten};
 
 use crate::replies::reply;
 use crate::stops::Stop;
@@ -14,7 +15,8 @@ const FAULT: u8 = 3;
 
 /// Writes an answer or a stop's line, and gives the exit status.
 fn respond<O: Sink>(out: &mut O, end: Result<Bytes, Stop>) -> u8
-    ensures { IsWritten end (O.taken out.old) (O.taken out.new) (O.faults out.old) (O.faults out.new) result }
+    ensures { (before after : Inside) → IsWritten end (record { inside = before; output = O.taken out.old; output_faults = O.faults out.old })
+        (record { inside = after; output = O.taken out.new; output_faults = O.faults out.new }) result }
 {
     let (status, written) = match end {
         Ok(text) => (0, write_all(out, text.as_slice())),
@@ -40,25 +42,7 @@ pub fn run<S: Store, I: Source, O: Sink>(
     input: &mut I,
     out: &mut O,
 ) -> u8
-    ensures reply { IsReplied (map string_bytes words.now)
-        (outside (S.files store.old) (S.faults store.old) (I.left input.old) (I.faults input.old) (O.taken out.old) (O.faults out.old))
-        (outside (S.files store.new) (S.faults store.new) (I.left input.new) (I.faults input.new) (O.taken out.new) (O.faults out.new)) result }
-    ensures input { ReadsInput (map string_bytes words.now)
-        (outside (S.files store.old) (S.faults store.old) (I.left input.old) (I.faults input.old) (O.taken out.old) (O.faults out.old))
-        (outside (S.files store.new) (S.faults store.new) (I.left input.new) (I.faults input.new) (O.taken out.new) (O.faults out.new)) result }
-    ensures files { ChangesNoFile
-        (outside (S.files store.old) (S.faults store.old) (I.left input.old) (I.faults input.old) (O.taken out.old) (O.faults out.old))
-        (outside (S.files store.new) (S.faults store.new) (I.left input.new) (I.faults input.new) (O.taken out.new) (O.faults out.new)) }
-    ensures fault { HasFault
-        (outside (S.files store.old) (S.faults store.old) (I.left input.old) (I.faults input.old) (O.taken out.old) (O.faults out.old))
-        (outside (S.files store.new) (S.faults store.new) (I.left input.new) (I.faults input.new) (O.taken out.new) (O.faults out.new)) result }
-    ensures fault_text { result ≡ 3 → SaysFault (map string_bytes words.now)
-        (outside (S.files store.old) (S.faults store.old) (I.left input.old) (I.faults input.old) (O.taken out.old) (O.faults out.old))
-        (outside (S.files store.new) (S.faults store.new) (I.left input.new) (I.faults input.new) (O.taken out.new) (O.faults out.new)) }
-    ensures memory { SaysMemory
-        (outside (S.files store.old) (S.faults store.old) (I.left input.old) (I.faults input.old) (O.taken out.old) (O.faults out.old))
-        (outside (S.files store.new) (S.faults store.new) (I.left input.new) (I.faults input.new) (O.taken out.new) (O.faults out.new)) result }
-    ensures complete { IsComplete (map string_bytes words.now)
+    ensures promises { Promises (command_in (map string_bytes words.now))
         (outside (S.files store.old) (S.faults store.old) (I.left input.old) (I.faults input.old) (O.taken out.old) (O.faults out.old))
         (outside (S.files store.new) (S.faults store.new) (I.left input.new) (I.faults input.new) (O.taken out.new) (O.faults out.new)) result }
 {

@@ -1,6 +1,7 @@
 //! How a command ends early.
 
 ghost use Rattle.std.specs.Prelude.{◌≡◌, ◌+◌, ◌≤◌, ◌++◌, length, codes, decimal};
+ghost use Rattle.engine_tool.specs.Outcomes.{status_of_kind};
 ghost use Rattle.engine_tool.specs.Stops.{refusal_of, what_text, stop_status, stop_line};
 
 use arrayvec::ArrayString;
@@ -28,8 +29,6 @@ pub enum What {
 /// A cause that the answer names.
 #[derive(Drop)]
 pub enum Refusal {
-    /// The words denote no command.
-    Usage,
     /// The text is no query that is built.
     Query,
     /// A file of the table is absent or out of form.
@@ -40,10 +39,9 @@ pub enum Refusal {
 
 impl Refusal {
     pub fn status(&self) -> u8
-        ensures { result ≡ (refusal_of self.now).status }
+        ensures { result ≡ status_of_kind (refusal_of self.now).kind }
     {
         match self {
-            Refusal::Usage => 2,
             Refusal::Query => 1,
             Refusal::Database(_, _) => 4,
             Refusal::SumTooWide => 5,
@@ -54,7 +52,6 @@ impl Refusal {
         ensures { result.bytes ≡ (refusal_of self.now).line }
     {
         match self {
-            Refusal::Usage => line_of("usage: see morphq help\n"),
             Refusal::Query => line_of("query: not built\n"),
             Refusal::Database(file, what) => database_line(file, *what),
             Refusal::SumTooWide => line_of("sum 1 operand 1 group 1: too wide\n"),
@@ -115,6 +112,8 @@ fn push_block(line: &mut Line, block: u64)
 /// Why a step doesn't go on.
 #[derive(Drop)]
 pub enum Stop {
+    /// The words denote no command.
+    Usage,
     Refused(Refusal),
     /// A call of the store failed.
     StoreFault,
@@ -129,6 +128,7 @@ impl Stop {
         ensures { result ≡ stop_status self.now }
     {
         match self {
+            Stop::Usage => 2,
             Stop::Refused(refusal) => refusal.status(),
             Stop::StoreFault | Stop::InputFault => 3,
             Stop::Memory => 6,
@@ -139,6 +139,7 @@ impl Stop {
         ensures { result.bytes ≡ stop_line self.now }
     {
         match self {
+            Stop::Usage => line_of("usage: see morphq help\n"),
             Stop::Refused(refusal) => refusal.line(),
             Stop::StoreFault => line_of("fault: store\n"),
             Stop::InputFault => line_of("fault: input\n"),

@@ -254,7 +254,7 @@ impl Store for MemStore {
     fn load(&mut self, alloc: Global, name: &str, limit: u64) -> Result<Option<Bytes>, LoadError>
         ensures loaded { IsLoaded (Some (files_of self.old)) name.now limit result }
         ensures unchanged { Some (files_of self.new) ≡ Some (files_of self.old) }
-        ensures calm { IfOk result (λ _. faults_of self.new ≡ faults_of self.old) }
+        ensures calm { (IsErrOf result LoadError.Failed → ⊥) → faults_of self.new ≡ faults_of self.old }
         ensures cause { IsErrOf result LoadError.Failed → Rose (faults_of self.old) (faults_of self.new) }
         ensures later { faults_of self.old ≤ faults_of self.new }
         ensures count { faults_of self.new < 2 ^ 64 }
@@ -277,6 +277,7 @@ impl Store for MemStore {
 
     fn save(&mut self, alloc: Global, name: &str, bytes: &[u8]) -> Result<(), SaveError>
         ensures saved { IsSaved (Some (files_of self.old)) (Some (files_of self.new)) name.now bytes.now result }
+        ensures calm { (IsErrOf result SaveError.Failed → ⊥) → faults_of self.new ≡ faults_of self.old }
         ensures cause { IsErrOf result SaveError.Failed → Rose (faults_of self.old) (faults_of self.new) }
         ensures later { faults_of self.old ≤ faults_of self.new }
         ensures count { faults_of self.new < 2 ^ 64 }

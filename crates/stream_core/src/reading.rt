@@ -77,7 +77,7 @@ pub fn read_all<I: Source>(alloc: Global, input: &mut I, limit: u64) -> Result<B
     ensures cause { IsErrOf result ReadError.Failed → Rose (I.faults input.old) (I.faults input.new) }
     ensures failed { IsErrOf result ReadError.Failed → ((count : ℕ) × (count ≤ limit) × ConsumesSome (I.left input.old) (I.left input.new) count) }
     ensures memory { IsErrOf result ReadError.Memory → ((count : ℕ) × (count ≤ limit) × ConsumesSome (I.left input.old) (I.left input.new) count) }
-    ensures calm { IfOk result (λ _. I.faults input.new ≡ I.faults input.old) }
+    ensures calm { (IsErrOf result ReadError.Failed → ⊥) → I.faults input.new ≡ I.faults input.old }
     ensures later { I.faults input.old ≤ I.faults input.new }
 {
     let mut text = Vec::new(alloc);

@@ -1,6 +1,6 @@
 //! Stores of files.
 
-ghost use Rattle.std.specs.Prelude.{◌≡◌, ℕ, ◌^◌, ◌<◌, ◌≤◌, Option, IsErrOf, IfOk};
+ghost use Rattle.std.specs.Prelude.{◌≡◌, ℕ, ◌^◌, ◌<◌, ◌≤◌, Option, IsErrOf};
 ghost use Rattle.stream_core.specs.Files.{Files};
 ghost use Rattle.stream_core.specs.Faults.{Rose};
 ghost use Rattle.stream_core.specs.Stores.{IsLoaded, IsSaved};
@@ -62,7 +62,7 @@ pub trait Store {
     fn load(&mut self, alloc: Global, name: &str, limit: u64) -> Result<Option<Bytes>, LoadError>
         ensures loaded { IsLoaded (files self.old) name.now limit result }
         ensures unchanged { files self.new ≡ files self.old }
-        ensures calm { IfOk result (λ _. faults self.new ≡ faults self.old) }
+        ensures calm { (IsErrOf result LoadError.Failed → ⊥) → faults self.new ≡ faults self.old }
         ensures cause { IsErrOf result LoadError.Failed → Rose (faults self.old) (faults self.new) }
         ensures later { faults self.old ≤ faults self.new }
         ensures count { faults self.new < 2 ^ 64 };
@@ -70,6 +70,7 @@ pub trait Store {
     /// Replaces the file, or makes it, and changes no other.
     fn save(&mut self, alloc: Global, name: &str, bytes: &[u8]) -> Result<(), SaveError>
         ensures saved { IsSaved (files self.old) (files self.new) name.now bytes.now result }
+        ensures calm { (IsErrOf result SaveError.Failed → ⊥) → faults self.new ≡ faults self.old }
         ensures cause { IsErrOf result SaveError.Failed → Rose (faults self.old) (faults self.new) }
         ensures later { faults self.old ≤ faults self.new }
         ensures count { faults self.new < 2 ^ 64 };

@@ -1,11 +1,11 @@
-use Rattle.std.proofs.Common.{◌≡◌, ◌+◌, ◌*◌, ◌++◌, List, ℕ, length, take, sym, ap, ap₂, ◌∙◌, arith}
+use Rattle.std.proofs.Common.{◌≡◌, ◌+◌, ◌*◌, ◌++◌, List, ℕ, take, ap, ap₂, ◌∙◌, arith}
 use Rattle.definitions_blocks.specs.Blocks.{block_values, block_at}
 use Rattle.definitions_columns.proofs.PlaceLaws.{take_blocks}
 use Rattle.engine_tool.proofs.decoding.decoded.Goals as goal
 
 pub loop-number-preserved : goal.loop-number-preserved
 loop-number-preserved c =
-    let values = c.args.column.now.values in
+    let values = c.args.column.values in
     let at = c.loop-number.number * block_values in
     let block : c.as_slice.result.now ≡ block_at values c.loop-number.number =
     c.as_slice.ensures.values ∙ c.block.ensures.values ∙ ap (λ l. block_at l c.loop-number.number) c.loop-number.invariant.source in

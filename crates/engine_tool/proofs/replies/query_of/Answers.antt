@@ -1,9 +1,12 @@
-use Rattle.std.proofs.Common.{◌∙◌, refl, inl, subst}
-use Rattle.engine_tool.specs.Queries.{Query, Spells}
+use Rattle.std.proofs.Common.{sym}
+use Rattle.engine_tool.specs.Outcomes.{Gives, OneOr}
+use Rattle.engine_tool.specs.Queries.{Spells, max_query}
+use Rattle.engine_tool.specs.Replies.{bad_query, limited}
+use Rattle.engine_tool.specs.Texts.{query_view}
+use Rattle.engine_tool.proofs.StepLemmas.{Ends-went}
 use Rattle.engine_tool.proofs.replies.query_of.Goals as goal
 
 pub returns-clause-step : goal.returns-clause-step
 returns-clause-step g c = λ text told.
-    let read = c.in_ok-text.ensures.step text told in
-    let none : (query : Query) → Spells text query → ⊥ = subst (λ t. (query : Query) → Spells t query → ⊥) (c.as_slice.ensures ∙ read.0) c.in-None.ensures in
-    inl (tt, read.1, (none, refl))
+    Ends-went query_view (Gives (limited max_query bad_query text)) (λ bytes. OneOr (Spells bytes) bad_query) c.in_ok-text.text c.spelled.result
+    (sym (c.in_ok-text.ensures.step text told)) (rw c.as_slice.ensures at c.spelled.ensures.step)

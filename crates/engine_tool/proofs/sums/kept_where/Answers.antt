@@ -1,6 +1,6 @@
-use Rattle.std.proofs.Common.{◌≡◌, ℕ, List, length, ap, ◌∙◌}
+use Rattle.std.proofs.Common.{◌≡◌, ap, ◌∙◌}
 use Rattle.std.proofs.lemmas.Result.{IfOk-weaker}
-use Rattle.definitions_operators.specs.Operators.{positions_in, values_at}
+use Rattle.definitions_operators.specs.Operators.{values_at}
 use Rattle.definitions_operators.specs.Sums.{kept_values}
 use Rattle.definitions_operators.proofs.SumLaws.{values_at-positions_in}
 use Rattle.engine_tool.proofs.sums.kept_where.Goals as goal

@@ -1,5 +1,5 @@
-use Rattle.std.proofs.Common.{◌≡◌, ℕ, List, [], ◌++◌, refl, subst}
-use Rattle.engine_tool.specs.Tokens.{Begins, AreTokens}
+use Rattle.std.proofs.Common.{◌≡◌, ℕ, List, ◌++◌, refl, subst}
+use Rattle.engine_tool.specs.Tokens.{Begins}
 use Rattle.engine_tool.specs.Queries.{Query, item_tokens, table_tokens, where_tokens, query_tokens}
 use Rattle.engine_tool.specs.Texts.{query_view}
 use Rattle.engine_tool.proofs.TextLemmas.{Begins-split, Begins-join, Begins-rest}

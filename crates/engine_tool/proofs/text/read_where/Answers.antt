@@ -1,4 +1,4 @@
-use Rattle.std.proofs.Common.{◌≡◌, [], Option, Some, None, ap, length, sym, ◌∙◌, arith, List, ℕ}
+use Rattle.std.proofs.Common.{◌≡◌, [], Option, Some, None, ap, length, ◌∙◌, arith, List, ℕ}
 use Rattle.std.proofs.lemmas.Bool.Decides.{nat_tests}
 use Rattle.stream_core.specs.Names.{IsName}
 use Rattle.engine_tool.specs.Tokens.{AreTokens, Begins, behind, is_white_space}

@@ -1,0 +1,129 @@
+-- What the top call promises.
+use Rattle.std.specs.Prelude.{◌≡◌, ◌≢◌, ℕ, false, ◌<◌, ◌⊎◌, List, length, take, codes, Option, Some, None, Ok, IsTrue}
+use Rattle.std.specs.Io.KnownBytes.{Appends, IsAtEnd}
+use Rattle.stream_core.specs.Faults.{Rose}
+use Rattle.stream_core.specs.Files.{Files}
+use Rattle.stream_core.specs.Names.{now_file_name}
+use Rattle.engine_tool.specs.TableFiles.{Same, SameBut, SameRows, WritesTable}
+use Rattle.engine_tool.specs.Commands.{Command, reads_files, reads_input, saves}
+use Rattle.engine_tool.specs.Replies.{Reply, Replies, Answer, Means, RefusesText, usage_line}
+
+-- What contracts see of what a command reads: the store's files and the bytes that the input has left, each where it is
+-- told, and how many calls of each have failed.
+pub record Inside : Type 0 where
+  pub files : Option Files
+  pub input : Option (List ℕ)
+  pub store_faults : ℕ
+  pub input_faults : ℕ
+
+-- the same, and what the output took
+pub record Outside : Type 0 where
+  pub inside : Inside
+  pub output : Option (List ℕ)
+  pub output_faults : ℕ
+
+-- The contents are these, as far as the command reads them.
+pub record Told (command : Option Command) (before : Inside) (files : Files) (text : List ℕ) : Type 0 where
+  pub folder : IsTrue (reads_files command) → before.files ≡ Some files
+  pub given : IsTrue (reads_input command) → before.input ≡ Some text
+
+-- told files are these
+abbrev pub FilesAre : Option Files → Files → Type 0
+FilesAre None files = ⊥
+FilesAre (Some held) files = Same held files
+
+-- the files that may change: none, or some of the table that is saved
+abbrev pub MayChange : Option (List ℕ) → Files → List ℕ → Type 0
+MayChange None files name = ⊥
+MayChange (Some table) files name = WritesTable table files name
+
+abbrev pub ChangesOnly : Option (List ℕ) → Option Files → Option Files → Type 0
+ChangesOnly saved None after = after ≡ None
+ChangesOnly saved (Some files) None = ⊥
+ChangesOnly saved (Some files) (Some held) = (name : List ℕ) → (MayChange saved files name → ⊥) → held name ≡ files name
+
+-- a count of failed calls rose
+abbrev pub StoreRose : Inside → Inside → Type 0
+StoreRose before after = Rose before.store_faults after.store_faults
+
+abbrev pub InputRose : Inside → Inside → Type 0
+InputRose before after = Rose before.input_faults after.input_faults
+
+abbrev pub OutputRose : Outside → Outside → Type 0
+OutputRose before after = Rose before.output_faults after.output_faults
+
+abbrev pub SomeRose : Outside → Outside → Type 0
+SomeRose before after = StoreRose before.inside after.inside ⊎ InputRose before.inside after.inside ⊎ OutputRose before after
+
+-- no call failed
+pub record NoneFailed (before after : Outside) : Type 0 where
+  pub store : after.inside.store_faults ≡ before.inside.store_faults
+  pub input : after.inside.input_faults ≡ before.inside.input_faults
+  pub output : after.output_faults ≡ before.output_faults
+
+-- the output took the text; it took a proper prefix of it, since a write failed; it took either
+abbrev pub Took : Outside → Outside → List ℕ → Type 0
+Took before after text = Appends before.output after.output text
+
+pub record IsCutOff (before after : Outside) (text : List ℕ) : Type 0 where
+  pub fault : OutputRose before after
+  pub count : ℕ
+  pub short : count < length text
+  pub taken : Took before after (take count text)
+
+abbrev pub Says : Outside → Outside → List ℕ → Type 0
+Says before after line = Took before after line ⊎ IsCutOff before after line
+
+-- What stands behind status 3: a call of the store or the input failed, and its line was written or cut off; or a write
+-- failed, and the reply or the line `memory` was cut off.
+pub data IsFault (command : Option Command) (before after : Outside) : Type 0 where
+  store : IsTrue (reads_files command) → StoreRose before.inside after.inside → Says before after (codes "fault: store\n") → IsFault command before after
+  input : IsTrue (reads_input command) → InputRose before.inside after.inside → Says before after (codes "fault: input\n") → IsFault command before after
+  reply : (written : List ℕ) → IsCutOff before after written
+      → ((files : Files) (text : List ℕ) → Told command before.inside files text → (reply : Reply) × Replies command files text reply × (written ≡ reply.text))
+      → IsFault command before after
+  memory : IsCutOff before after (codes "memory\n") → IsFault command before after
+
+-- the command's answer, where it has one, leaves these files
+abbrev pub Leaves : Option Command → Files → List ℕ → Files → Type 0
+Leaves None files text held = ⊥
+Leaves (Some command) files text held = (answer : Answer) × Means command files text (Ok answer) × Same answer.files held
+
+-- What became of a table where the command that saves it did not end with status 0: its rows stand as they did; or all was
+-- saved but for the now file, whose save failed; or all was saved, and the closing line was not taken.
+pub data AfterRefusal (command : Option Command) (table : List ℕ) (before after : Outside) (files held : Files) : Type 0 where
+  same : SameRows table held files → AfterRefusal command table before after files held
+  switch : StoreRose before.inside after.inside
+      → ((text : List ℕ) → Told command before.inside files text → (full : Files) × Leaves command files text full × SameBut (now_file_name table) held full)
+      → AfterRefusal command table before after files held
+  line : OutputRose before after
+      → ((text : List ℕ) → Told command before.inside files text → (full : Files) × Leaves command files text full × Same held full)
+      → AfterRefusal command table before after files held
+
+-- The promises of a call whose words denote this command, or none.
+pub record Promises (command : Option Command) (before after : Outside) (status : ℕ) : Type 0 where
+  -- The reply is the command's, unless a call failed or memory ran out.
+  pub reply : (files : Files) (text : List ℕ) → Told command before.inside files text → status ≢ 3 → status ≢ 6 →
+      (reply : Reply) × Replies command files text reply × (status ≡ reply.status) × Took before after reply.text
+      × (before.inside.files ≡ Some files → FilesAre after.inside.files reply.files)
+  -- Words that denote no command are said to be so, unless a write failed, and no others; no call is made for them but writes.
+  pub usage : command ≡ None → ((status ≡ 2) × Took before after usage_line) ⊎ ((status ≡ 3) × IsCutOff before after usage_line)
+  pub only_usage : status ≡ 2 → command ≡ None
+  pub quiet : command ≡ None → after.inside ≡ before.inside
+  -- An input that the command reads is read to its end where the command is done. Any other input is left as it is.
+  pub whole : IsTrue (reads_input command) → status ≡ 0 → IsAtEnd after.inside.input
+  pub unread : reads_input command ≡ false → after.inside.input ≡ before.inside.input
+  -- No file is loaded for a text that is refused by itself.
+  pub unasked : (text : List ℕ) → before.inside.input ≡ Some text → RefusesText command text → after.inside.store_faults ≡ before.inside.store_faults
+  -- Only files of the saved table change, and its rows change only where the command is done.
+  pub changes : ChangesOnly (saves command) before.inside.files after.inside.files
+  pub kept : (table : List ℕ) (files held : Files) → saves command ≡ Some table → before.inside.files ≡ Some files → after.inside.files ≡ Some held →
+      status ≢ 0 → AfterRefusal command table before after files held
+  -- Status 3 comes where a call failed, and only there.
+  pub fault : status ≡ 3 → IsFault command before after
+  pub calm : status ≢ 3 → NoneFailed before after
+  -- Want of memory is said, and nothing else.
+  pub memory : status ≡ 6 → Took before after (codes "memory\n")
+  -- Where no call failed, the status is the reply's, unless memory ran out.
+  pub complete : (SomeRose before after → ⊥) → (files : Files) (text : List ℕ) → Told command before.inside files text →
+      (status ≡ 6) ⊎ ((reply : Reply) × Replies command files text reply × (status ≡ reply.status))

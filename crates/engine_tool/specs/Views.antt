@@ -1,0 +1,42 @@
+-- What values of the code stand for.
+use Rattle.std.specs.Prelude.{◌≡◌, ℕ, List, length, Option, Some, None, IfSome}
+use Rattle.column_core.specs.Columns.{Shape}
+use Rattle.engine_tool.specs.Commands as commands
+use Rattle.engine_tool.specs.NowFiles as now_files
+use Rattle.engine_tool.specs.Replies as replies
+use Rattle.engine_tool.specs.declared.commands.Command.{Command}
+use Rattle.engine_tool.specs.declared.commands.Command.TheVariants as command
+use Rattle.engine_tool.specs.declared.now_file.Slot.{Slot}
+use Rattle.engine_tool.specs.declared.now_file.Slot.TheVariants as slot
+use Rattle.engine_tool.specs.declared.now_file.Now.{Now}
+use Rattle.engine_tool.specs.declared.loading.Tested.{Tested}
+use Rattle.engine_tool.specs.declared.loading.Tested.TheVariants as tested
+use Rattle.engine_tool.specs.declared.loading.Loaded.{Loaded}
+
+abbrev pub command_view : Command → commands.Command
+command_view command.Query = commands.query
+
+-- the letter of a slot
+abbrev pub letter_of : Slot → ℕ
+letter_of slot.A = 97
+letter_of slot.B = 98
+
+abbrev pub now_view : Now → now_files.Now
+now_view now = record { slot = letter_of now.slot; rows = now.rows }
+
+-- the list of a column
+abbrev pub values_of : Shape → List ℕ
+values_of column = column.values
+
+-- the list that a condition tests, beside the one that is summed
+abbrev pub tested_of : List ℕ → Tested → Option (List ℕ)
+tested_of summed tested.Nothing = None
+tested_of summed tested.Summed = Some summed
+tested_of summed (tested.Other column) = Some column.values
+
+abbrev pub loaded_view : Loaded → replies.Loaded
+loaded_view loaded = record { summed = loaded.summed.values; tested = tested_of loaded.summed.values loaded.tested }
+
+-- the list that a condition tests has a value for each row
+abbrev pub HasRows : replies.Loaded → Type 0
+HasRows loaded = IfSome loaded.tested (λ tested. length tested ≡ length loaded.summed)

@@ -1,0 +1,215 @@
+//! The files of a query: they are loaded and checked, and no column is decoded.
+
+ghost use Rattle.std.specs.Prelude.{◌≡◌, ℕ, List as Items, Some, Ok, Err, length, IfOk, IsErrOf, IsTrue, ◌↔◌};
+ghost use Rattle.stream_core.specs.Files.{Files};
+ghost use Rattle.stream_core.specs.Names.{now_file_name, column_file_name};
+ghost use Rattle.column_file.specs.Faults.{Says};
+ghost use Rattle.column_core.specs.Columns.{Shape};
+ghost use Rattle.engine_tool.specs.Replies.{now_of, column_bytes, ValuesOf, for_rows, ColumnOf, TestedOf, LoadedOf};
+ghost use Rattle.engine_tool.specs.Stops.{Ends, EndsAs, Computes, KeepsStore, IsInner, TakesNoMemory};
+ghost use Rattle.engine_tool.specs.Texts.{condition_view, query_view};
+ghost use Rattle.engine_tool.specs.Views.{letter_of, now_view, values_of, loaded_view, HasRows};
+
+use crate::now_file::{Now, Slot, read_now};
+use crate::stops::{Refusal, Stop, What};
+use crate::text::{Condition, SumQuery};
+use arrayvec::ArrayString;
+use column_core::Column;
+use column_file::{ColumnError, read_column};
+use std::alloc::Global;
+use stream_core::{Bytes, FileName, LoadError, Name, Store};
+
+/// How many bytes are read of a now file and of a column file at most.
+const MAX_NOW_FILE: u64 = 13;
+
+const MAX_COLUMN_FILE: u64 = 4_294_967_296;
+
+/// The column that a condition tests.
+#[derive(Drop)]
+pub enum Tested {
+    /// There is no condition.
+    Nothing,
+    /// The column that is summed, which is loaded once.
+    Summed,
+    Other(Column),
+}
+
+/// The columns of a query, whose files are checked.
+#[derive(Drop)]
+pub struct Loaded {
+    pub summed: Column,
+    pub tested: Tested,
+}
+
+/// `TABLE.now`.
+fn now_file_name(table: &Name) -> FileName
+    ensures { result ≡ now_file_name table.now }
+{
+    let mut name = ArrayString::<72>::new();
+    name.push_str(table.as_str());
+    name.push_str(".now");
+    FileName::of(name.as_str()).unwrap()
+}
+
+/// `TABLE.SLOT.COLUMN.col`.
+fn column_file_name(table: &Name, slot: Slot, column: &Name) -> FileName
+    ensures { result ≡ column_file_name table.now (letter_of slot) column.now }
+{
+    let mut name = ArrayString::<72>::new();
+    name.push_str(table.as_str());
+    name.push_str(".");
+    name.push(char::from(slot.letter()));
+    name.push_str(".");
+    name.push_str(column.as_str());
+    name.push_str(".col");
+    FileName::of(name.as_str()).unwrap()
+}
+
+/// The refusal of a file.
+fn refused(file: &FileName, what: What) -> Stop
+    ensures { result ≡ Stop.Refused (Refusal.Database file.now what) }
+{
+    let file = FileName::of(file.as_str()).unwrap();
+    Stop::Refused(Refusal::Database(file, what))
+}
+
+/// Where the table's rows stand.
+fn now_of<S: Store>(alloc: Global, store: &mut S, table: &Name) -> Result<Now, Stop>
+    ensures step { (files : Files) → S.files store.old ≡ Some files → Computes now_view result (now_of files table.now) }
+    ensures kept { KeepsStore (S.files store.old) (S.files store.new) (S.faults store.old) (S.faults store.new) result }
+{
+    let file = now_file_name(table);
+    match store.load(alloc, file.as_str(), MAX_NOW_FILE) {
+        Ok(Some(bytes)) => match read_now(bytes.as_slice()) {
+            Some(now) => Ok(now),
+            None => Err(refused(&file, What::BadNow)),
+        },
+        Ok(None) => Err(refused(&file, What::NoFile)),
+        Err(LoadError::TooLong) => Err(refused(&file, What::BadNow)),
+        Err(LoadError::Failed) => Err(Stop::StoreFault),
+        Err(LoadError::Memory) => Err(Stop::Memory),
+    }
+}
+
+/// The bytes of a column file.
+fn column_bytes<S: Store>(alloc: Global, store: &mut S, file: &FileName) -> Result<Bytes, Stop>
+    ensures step { (files : Files) → S.files store.old ≡ Some files → Computes (λ (b : Items ℕ). b) result (column_bytes files file.now) }
+    ensures kept { KeepsStore (S.files store.old) (S.files store.new) (S.faults store.old) (S.faults store.new) result }
+{
+    match store.load(alloc, file.as_str(), MAX_COLUMN_FILE) {
+        Ok(Some(bytes)) => Ok(bytes),
+        Ok(None) => Err(refused(file, What::NoFile)),
+        Err(LoadError::TooLong) => Err(refused(file, What::TooLong)),
+        Err(LoadError::Failed) => Err(Stop::StoreFault),
+        Err(LoadError::Memory) => Err(Stop::Memory),
+    }
+}
+
+/// What an error of a column file ends a command with.
+fn column_stop(file: &FileName, error: ColumnError) -> Stop
+    ensures step { (bytes : Items ℕ) → Says bytes error → Ends values_of (Err result) (ValuesOf file.now bytes) }
+    ensures kept { IsInner {X = Shape} (Err result) }
+    ensures memory { result ≡ Stop.Memory → error ≡ ColumnError.Memory }
+{
+    match error {
+        ColumnError::BadHeader => refused(file, What::BadHeader),
+        ColumnError::BadBlock { block } => refused(file, What::BadBlock(block)),
+        ColumnError::BadWidth => refused(file, What::BadWidth),
+        ColumnError::BadTail => refused(file, What::BadTail),
+        ColumnError::Memory => Stop::Memory,
+    }
+}
+
+/// The column whose file the bytes are. They are read once and kept as they are.
+fn checked_column(alloc: Global, file: &FileName, bytes: Bytes) -> Result<Column, Stop>
+    ensures step { Ends values_of result (ValuesOf file.now bytes) }
+    ensures kept { IsInner result }
+{
+    match read_column(alloc, bytes) {
+        Ok(column) => Ok(column),
+        Err(error) => Err(column_stop(file, error)),
+    }
+}
+
+/// The column, where it has a value for each row.
+fn for_rows(file: &FileName, rows: u64, column: Column) -> Result<Column, Stop>
+    ensures step { Computes values_of result (for_rows file.now rows column.values) }
+    ensures kept { TakesNoMemory result }
+    ensures rows { IfOk result (λ found. length found.values ≡ rows) }
+{
+    if column.count() != rows {
+        return Err(refused(file, What::Length));
+    }
+    Ok(column)
+}
+
+/// One column of the table.
+fn column_of<S: Store>(
+    alloc: Global,
+    store: &mut S,
+    table: &Name,
+    now: Now,
+    column: &Name,
+) -> Result<Column, Stop>
+    ensures step { (files : Files) → S.files store.old ≡ Some files →
+        Ends values_of result (ColumnOf files table.now (now_view now) column.now) }
+    ensures kept { KeepsStore (S.files store.old) (S.files store.new) (S.faults store.old) (S.faults store.new) result }
+    ensures rows { IfOk result (λ found. length found.values ≡ now.rows) }
+{
+    let file = column_file_name(table, now.slot, column);
+    let bytes = column_bytes(alloc, store, &file)?;
+    let column = checked_column(alloc, &file, bytes)?;
+    for_rows(&file, now.rows, column)
+}
+
+fn are_same(name: &Name, other: &Name) -> bool
+    ensures { IsTrue result ↔ (name.now ≡ other.now) }
+{
+    name.as_str() == other.as_str()
+}
+
+/// The summed column, and the one that the condition tests. A column that is both is not loaded again.
+fn with_tested<S: Store>(
+    alloc: Global,
+    store: &mut S,
+    query: &SumQuery,
+    now: Now,
+    summed: Column,
+) -> Result<Loaded, Stop>
+    requires rows { length summed.values ≡ now.rows }
+    requires summed { (files : Files) → S.files store.old ≡ Some files →
+        ColumnOf files query.now.table (now_view now) query.now.summed (Ok summed.values) }
+    ensures step { (files : Files) → S.files store.old ≡ Some files →
+        Ends loaded_view result (TestedOf files query.now.table (now_view now) summed.values (condition_view query.now.condition)) }
+    ensures kept { KeepsStore (S.files store.old) (S.files store.new) (S.faults store.old) (S.faults store.new) result }
+    ensures rows { IfOk result (λ loaded. HasRows (loaded_view loaded)) }
+{
+    let Some(condition) = &query.condition else {
+        return Ok(Loaded {
+            summed,
+            tested: Tested::Nothing,
+        });
+    };
+    if are_same(&condition.tested, &query.summed) {
+        return Ok(Loaded {
+            summed,
+            tested: Tested::Summed,
+        });
+    }
+    let other = column_of(alloc, store, &query.table, now, &condition.tested)?;
+    Ok(Loaded {
+        summed,
+        tested: Tested::Other(other),
+    })
+}
+
+/// The columns of a query.
+pub fn loaded_of<S: Store>(alloc: Global, store: &mut S, query: &SumQuery) -> Result<Loaded, Stop>
+    ensures step { (files : Files) → S.files store.old ≡ Some files → Ends loaded_view result (LoadedOf files (query_view query.now)) }
+    ensures kept { KeepsStore (S.files store.old) (S.files store.new) (S.faults store.old) (S.faults store.new) result }
+    ensures rows { IfOk result (λ loaded. HasRows (loaded_view loaded)) }
+{
+    let now = now_of(alloc, store, &query.table)?;
+    let summed = column_of(alloc, store, &query.table, now, &query.summed)?;
+    with_tested(alloc, store, query, now, summed)
+}
