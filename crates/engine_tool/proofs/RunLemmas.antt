@@ -89,7 +89,7 @@ module _ (command : Option Command) (before after : Outside) (end : Result (List
     promises_cut : Promises command before after 3
     promises_cut = record {
       reply = λ files text told not_fault not_memory. absurd (not_fault refl);
-      usage = λ e. inr (refl, subst (IsCutOff before after) (ap text_of (it.usage e)) cut_off);
+      usage = λ e. inr (inl (refl, inl (subst (IsCutOff before after) (ap text_of (it.usage e)) cut_off)));
       only_usage = λ e. absurd (omega (arith, e));
       quiet = it.quiet;
       whole = λ reads e. absurd (omega (arith, e));

@@ -84,6 +84,10 @@ pub data IsFault (command : Option Command) (before after : Outside) : Type 0 wh
       → IsFault command before after
   memory : IsCutOff before after (codes "memory\n") → IsFault command before after
 
+-- the line for words that denote no command was cut off, or the line that says want of memory
+abbrev pub IsCutUsage : Outside → Outside → Type 0
+IsCutUsage before after = IsCutOff before after usage_line ⊎ IsCutOff before after (codes "memory\n")
+
 -- the command's answer, where it has one, leaves these files
 abbrev pub Leaves : Option Command → Files → List ℕ → Files → Type 0
 Leaves None files text held = ⊥
@@ -106,8 +110,9 @@ pub record Promises (command : Option Command) (before after : Outside) (status 
   pub reply : (files : Files) (text : List ℕ) → Told command before.inside files text → status ≢ 3 → status ≢ 6 →
       (reply : Reply) × Replies command files text reply × (status ≡ reply.status) × Took before after reply.text
       × (before.inside.files ≡ Some files → FilesAre after.inside.files reply.files)
-  -- Words that denote no command are said to be so, unless a write failed, and no others; no call is made for them but writes.
-  pub usage : command ≡ None → ((status ≡ 2) × Took before after usage_line) ⊎ ((status ≡ 3) × IsCutOff before after usage_line)
+  -- Words that denote no command are said to be so, unless a write failed or memory ran out. No others are said to be so, and no
+  -- call of the store or the input is made for them.
+  pub usage : command ≡ None → ((status ≡ 2) × Took before after usage_line) ⊎ ((status ≡ 3) × IsCutUsage before after) ⊎ (status ≡ 6)
   pub only_usage : status ≡ 2 → command ≡ None
   pub quiet : command ≡ None → after.inside ≡ before.inside
   -- An input that the command reads is read to its end where the command is done. Any other input is left as it is.
