@@ -38,7 +38,7 @@ encoding_of format width reserve values = record { format = format; width = widt
 abbrev pub Encoded : Format → ℕ → List ℕ → Type 0
 Encoded format width bytes = (values : List ℕ) × ∥ IsEncoded (format_of format) width values bytes ∥₁
 
--- it is one at most
+-- there is one at most
 pub Encoded-prop : (format : Format) (width : ℕ) (bytes : List ℕ) (s t : Encoded format width bytes) → s ≡ t
 Encoded-prop format width bytes s t =
     let same : s.0 ≡ t.0 =

@@ -9,7 +9,7 @@ use Rattle.block_core.specs.declared.formats.Format.{Format}
 use Rattle.block_core.specs.Formats.{format_of}
 use Rattle.column_core.specs.Columns.{Reserve}
 
--- what pushes leave as it was of a builder
+-- what no push changes of a builder
 pub record Frame : Type 0 where
   pub format : Format
   pub width : ℕ
@@ -26,6 +26,7 @@ pub record IsBuilding (format : Format) (width : ℕ) (values block : List ℕ) 
   pub few : length (values ++ block) ≤ max_rows
   pub fits : fits_columns (format_of format) width (values ++ block) ≡ true
 
--- which lists are sure to be taken: those whose head, whole blocks and count are within what is reserved
+-- Which lists a builder is sure to take: those of which the head and the whole blocks, and the number of values, are within
+-- what is reserved.
 abbrev pub has_room : Frame → List ℕ → Bool
 has_room of values = is_within_room (format_of of.format) of.width of.reserve.bytes of.reserve.count values

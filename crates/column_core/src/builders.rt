@@ -17,8 +17,8 @@ use std::alloc::{AllocError, Global};
 use std::marker::Model;
 use strand_pack::width_of_values;
 
-/// Builds the column of the values that are pushed. It holds one block, and encodes it when it is full and the next value comes,
-/// or when the column is finished.
+/// Builds the column of the values that are pushed. It holds one block. A full one is encoded when the next value comes, or when
+/// the column is finished.
 #[derive(Drop)]
 pub struct Builder {
     encoded: Encoded,
@@ -50,10 +50,9 @@ impl Builder {
         })
     }
 
-    /// Takes memory ahead, so that pushes need none. From now on a push is `Ok` as long as the head and the whole blocks of the
-    /// list have at most so many bytes, and the list has at most so many values; `finish` is, if the whole file has no more.
-    /// The room is for the whole list, with what was pushed before. Less than is reserved already changes nothing, and so
-    /// does an `Err`.
+    /// Takes memory ahead, so that pushes need none. From now on a push is `Ok` as long as the list has at most `count` values
+    /// and its head and whole blocks have at most `bytes` bytes. `finish` is `Ok` if that holds of the whole file. The numbers
+    /// are for the whole list, with what was pushed before; less than was reserved before changes nothing. Nor does an `Err`.
     pub fn reserve(&mut self, bytes: u64, count: u64) -> Result<(), AllocError>
         ensures ok { OnOk result (self.new ≡ encoding_of self.old.format self.old.width
             (reserve (max self.old.reserve.bytes bytes) (max self.old.reserve.count count)) self.old.values) }

@@ -1,12 +1,11 @@
 //! A column: one list in one format, as its file.
 
-ghost use Rattle.std.specs.Prelude.{◌≡◌, ◌+◌, ◌*◌, ◌/◌, ◌%◌, ◌<◌, ◌≤◌, ℕ, List as Items, length, slice_index, take, drop, true, IfSome};
-ghost use Rattle.std.specs.Int.{from_le_bytes, w64};
+ghost use Rattle.std.specs.Prelude.{◌≡◌, ◌+◌, ◌*◌, ◌/◌, ◌%◌, ◌<◌, ◌≤◌, ℕ, List as Items, length, slice_index, drop, true, IfSome};
 ghost use Rattle.definitions_blocks.specs.Blocks.{block_values, block_at};
 ghost use Rattle.definitions_blocks.specs.Columns.{IsColumn, max_rows};
 ghost use Rattle.definitions_blocks.specs.Formats.{plain, BlockOf, IsColumnWidth};
 ghost use Rattle.definitions_columns.specs.ColumnFiles.{IsColumnFile, IsIndexed, fits_columns, static_width_of};
-ghost use Rattle.block_core.specs.Formats.{format_of, tag_of};
+ghost use Rattle.block_core.specs.Formats.{format_of};
 ghost use Rattle.column_core.specs.Columns.{shape};
 
 use crate::blocks::{decode_block, pick_value};

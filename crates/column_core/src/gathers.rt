@@ -109,6 +109,7 @@ impl<'a, const L: usize> PlaceSource for Gather<'a, L> {
         self.column.count()
     }
 
+    // A source may count less than one step for a look-up. This one counts each.
     fn value_at<G>(&mut self, place: u64, steps: &mut Steps<G>) -> u64
         requires { place < length self.old }
         ensures value { result ≡ slice_index self.old place }
