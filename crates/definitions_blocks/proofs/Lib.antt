@@ -14,3 +14,4 @@ pub mod RunBlockLaws
 pub mod CascadeLaws
 pub mod BlockLaws
 pub mod WorkedExamples
+pub mod WorkedBlocks
