@@ -6,7 +6,7 @@ ghost use Rattle.definitions_blocks.specs.Packed.{AreBelow};
 
 use block_core::Block;
 use shapes::next_state;
-use strand_pack::{pack, unpack};
+use strand_pack::{pack, packed_len, unpack};
 
 /// How many blocks a round goes over.
 const BLOCKS: usize = 8;
@@ -47,7 +47,7 @@ fn pack_all<const L: usize>(full: &Block, width: u8, into: &mut [u8; MOST_BYTES 
     requires narrow { width ≤ 64 }
     requires small { AreBelow width full.now }
 {
-    let len = 128 * width as usize;
+    let len = packed_len(width);
     for number in 0..BLOCKS {
         pack::<L>(full, width, &mut into[number * len..number * len + len]);
     }
@@ -58,7 +58,7 @@ pub fn unpack_rounds<const L: usize>(width: u8, rounds: u64) -> u64
     requires { width ≤ 64 }
 {
     let mut bytes = [0u8; MOST_BYTES * BLOCKS];
-    let len = 128 * width as usize;
+    let len = packed_len(width);
     pack_all::<L>(&block_below(width), width, &mut bytes);
     let mut block = Block::new();
     let mut sum = 0u64;

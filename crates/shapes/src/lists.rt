@@ -1,11 +1,11 @@
 //! The shapes of lists.
 
-ghost use Rattle.std.specs.Prelude.{◌≡◌, ℕ, ◌+◌, ◌*◌, ◌/◌, ◌%◌, ◌^◌, ◌<◌, length, slice_index, EachIndex, IfOk};
+ghost use Rattle.std.specs.Prelude.{◌≡◌, ◌+◌, ◌*◌, ◌/◌, ◌%◌, ◌^◌, ◌<◌, length, slice_index, EachIndex, IfOk};
 ghost use Rattle.definitions_blocks.specs.Blocks.{IsFull};
 ghost use Rattle.shapes.specs.Lists.{turn_at, AreOf};
 
 use crate::Random;
-use block_core::Block;
+use block_core::{Block, words_fit};
 use std::alloc::{AllocError, Global};
 
 /// What the values of a list look like. `{shape:?}` names it in a message.
@@ -155,11 +155,6 @@ fn write_turns(into: &mut [u64], first: u64, second: u64, times: u64)
         };
     }
 }
-
-/// That a word is below 2^64 follows from the type of a slice. A call tells it to the proof.
-fn words_fit(words: &[u64])
-    ensures { (place : ℕ) → slice_index words.now place < 2 ^ 64 }
-{}
 
 fn scattered(bits: u32) -> Random {
     Random {

@@ -11,6 +11,7 @@ use shapes::Shape;
 use std::alloc::{AllocError, Global};
 use std::process::Abort;
 use std::test::Fail;
+use strand_pack::packed_len;
 
 // The base 5 of a cascade.
 const FIVE: &[u8] = b"\x05\0\0\0\0\0\0\0";
@@ -31,7 +32,7 @@ fn packed_after(
 ) -> Result<Vec<u8>, AllocError> {
     let mut bytes = Vec::from_slice(alloc, base)?;
     bytes.push(width)?;
-    for here in 0..128 * width as usize {
+    for here in 0..packed_len(width) {
         bytes.push(if here == place { byte } else { 0 })?;
     }
     Ok(bytes)

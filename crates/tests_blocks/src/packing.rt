@@ -8,7 +8,7 @@ use block_core::Block;
 use std::alloc::{AllocError, Global};
 use std::process::Abort;
 use std::test::Fail;
-use strand_pack::{pack, pick, unpack, width_of};
+use strand_pack::{pack, packed_len, pick, unpack, width_of};
 
 const EVEN_BITS: u64 = 0x5555_5555_5555_5555;
 
@@ -18,7 +18,7 @@ const ODD_BITS: u64 = 0xaaaa_aaaa_aaaa_aaaa;
 fn room_for(alloc: Global, width: u8) -> Result<Vec<u8>, AllocError>
     ensures { IfOk result (λ bytes. length bytes.items ≡ 128 * width) }
 {
-    vec![in alloc; 0x99; 128 * width as usize]
+    vec![in alloc; 0x99; packed_len(width)]
 }
 
 // The block whose strands each repeat one value.
