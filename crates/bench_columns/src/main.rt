@@ -5,7 +5,7 @@
 #![tactic(auto)]
 
 mod reading;
-mod shapes;
+mod values;
 mod writing;
 
 ghost use Rattle.std.specs.Prelude.{◌≡◌, ◌≤◌, length};
@@ -14,9 +14,9 @@ ghost use Rattle.definitions_blocks.specs.Columns.{max_rows};
 use block_core::{Format, Steps};
 use column_core::{Column, encode_list};
 use reading::{cursor_rounds, gather_rounds, places_of};
-use shapes::values_of;
 use std::alloc::{AllocError, Global};
 use std::{env, io};
+use values::values_of;
 use writing::{build_rounds, bytes_sum, list_rounds};
 
 /// What is done in each round.
@@ -50,12 +50,9 @@ fn task_named(name: &str) -> Option<Task> {
     None
 }
 
-/// The number that a word encodes, or 0.
-fn number(word: Option<&String>) -> u64 {
-    match word {
-        Some(word) => word.as_str().parse().unwrap_or(0),
-        None => 0,
-    }
+/// The number that a word says, or 0.
+fn number(word: &String) -> u64 {
+    word.as_str().parse().unwrap_or(0)
 }
 
 /// The checksum of the column's file and of the rounds over it.
@@ -94,9 +91,9 @@ fn main(rt: HostRuntime) -> io::Result<()> {
     let (Some(task), Some(format)) = (task_named(&words[1]), Format::from_name(&words[2])) else {
         return Ok(());
     };
-    let values = values_of(rt.alloc(), format, number(words.get(3)))?;
+    let values = values_of(rt.alloc(), format, number(&words[3]))?;
     let column = encode_list(rt.alloc(), values.as_slice(), format)?;
-    let rounds = number(words.get(4));
+    let rounds = number(&words[4]);
     let sum = checksum(rt.alloc(), task, &column, values.as_slice(), rounds)?;
     println!(rt; "{sum}")
 }

@@ -3,9 +3,9 @@
 ghost use Rattle.std.specs.Prelude.{◌≡◌, ◌<◌, ◌*◌, length, All, IfOk};
 ghost use Rattle.block_core.specs.Formats.{format_of};
 
-use crate::shapes::next_state;
 use block_core::{BLOCK_LEN, Block, BlockSource, PlaceSource, Steps};
 use column_core::{Column, Cursor, Gather};
+use shapes::next_state;
 use std::alloc::{AllocError, Global};
 
 /// Of how many places one is looked up.

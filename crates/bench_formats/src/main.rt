@@ -4,8 +4,8 @@
 //! checksum. Without words it does nothing.
 #![tactic(auto)]
 
+mod blocks;
 mod rounds;
-mod shapes;
 
 use block_core::Format;
 use block_formats::Dynamic;
@@ -15,12 +15,9 @@ use run_formats::Runs;
 use std::alloc::{AllocError, Global};
 use std::{env, io};
 
-/// The number that a word encodes, or 0.
-fn number(word: Option<&String>) -> u64 {
-    match word {
-        Some(word) => word.as_str().parse().unwrap_or(0),
-        None => 0,
-    }
+/// The number that a word says, or 0.
+fn number(word: &String) -> u64 {
+    word.as_str().parse().unwrap_or(0)
 }
 
 /// The checksum of the rounds in a format.
@@ -43,8 +40,8 @@ fn main(rt: HostRuntime) -> io::Result<()> {
     }
     let work = Work {
         decodes: words[1].as_str() == "decode",
-        shape: number(words.get(3)),
-        rounds: number(words.get(4)),
+        shape: number(&words[3]),
+        rounds: number(&words[4]),
     };
     let sum = match Format::from_name(words[2].as_str()) {
         Some(format) => checksum(rt.alloc(), format, &work)?,

@@ -4,7 +4,7 @@ ghost use Rattle.std.specs.Prelude.{◌≡◌, ℕ, ◌^◌, ◌<◌, List, leng
 ghost use Rattle.definitions_blocks.specs.Blocks.{IsFull};
 ghost use Rattle.definitions_blocks.specs.Packings.{IsBlock};
 
-use crate::shapes::block_of;
+use crate::blocks::block_of;
 use block_core::{Block, Packing};
 use std::alloc::{AllocError, Global};
 

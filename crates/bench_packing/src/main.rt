@@ -11,12 +11,9 @@ mod rounds;
 use rounds::{pack_rounds, unpack_rounds};
 use std::{env, io};
 
-/// The number that a word encodes, or 0.
-fn number(word: Option<&String>) -> u64 {
-    match word {
-        Some(word) => word.as_str().parse().unwrap_or(0),
-        None => 0,
-    }
+/// The number that a word says, or 0.
+fn number(word: &String) -> u64 {
+    word.as_str().parse().unwrap_or(0)
 }
 
 /// The checksum of the rounds at the lane width.
@@ -39,7 +36,7 @@ fn main(rt: HostRuntime) -> io::Result<()> {
         return Ok(());
     }
     let unpacks = words[1].as_str() == "unpack";
-    let width = number(words.get(2)).min(64) as u8;
-    let sum = checksum(unpacks, number(words.get(3)), width, number(words.get(4)));
+    let width = number(&words[2]).min(64) as u8;
+    let sum = checksum(unpacks, number(&words[3]), width, number(&words[4]));
     println!(rt; "{sum}")
 }

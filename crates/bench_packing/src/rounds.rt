@@ -5,7 +5,8 @@ ghost use Rattle.definitions_blocks.specs.Blocks.{block_values};
 ghost use Rattle.definitions_blocks.specs.Packed.{AreBelow};
 
 use block_core::Block;
-use strand_pack::{pack, unpack};
+use shapes::next_state;
+use strand_pack::{pack, packed_len, unpack};
 
 /// How many blocks a round goes over.
 const BLOCKS: usize = 8;
@@ -34,12 +35,22 @@ fn block_below(width: u8) -> Block
     let mut block = Block::new();
     let mut value = 1u64;
     for _place in 0..1024u32 {
-        value = value
-            .wrapping_mul(6_364_136_223_846_793_005)
-            .wrapping_add(1_442_695_040_888_963_407);
+        value = next_state(value);
         block.push(low_bits(value >> 7 ^ value, width));
     }
     block
+}
+
+/// Packs a block eight times, one behind the other.
+fn pack_all<const L: usize>(full: &Block, width: u8, into: &mut [u8; MOST_BYTES * BLOCKS])
+    requires whole { length full.now ≡ block_values }
+    requires narrow { width ≤ 64 }
+    requires small { AreBelow width full.now }
+{
+    let len = packed_len(width);
+    for number in 0..BLOCKS {
+        pack::<L>(full, width, &mut into[number * len..number * len + len]);
+    }
 }
 
 /// Unpacks eight blocks in each round, and adds up a value of each.
@@ -47,11 +58,8 @@ pub fn unpack_rounds<const L: usize>(width: u8, rounds: u64) -> u64
     requires { width ≤ 64 }
 {
     let mut bytes = [0u8; MOST_BYTES * BLOCKS];
-    let len = 128 * width as usize;
-    let full = block_below(width);
-    for number in 0..BLOCKS {
-        pack::<L>(&full, width, &mut bytes[number * len..number * len + len]);
-    }
+    let len = packed_len(width);
+    pack_all::<L>(&block_below(width), width, &mut bytes);
     let mut block = Block::new();
     let mut sum = 0u64;
     for round in 0..rounds {
@@ -69,13 +77,10 @@ pub fn pack_rounds<const L: usize>(width: u8, rounds: u64) -> u64
     requires { width ≤ 64 }
 {
     let mut bytes = [0u8; MOST_BYTES * BLOCKS];
-    let len = 128 * width as usize;
     let full = block_below(width);
     let mut sum = 0u64;
     for round in 0..rounds {
-        for number in 0..BLOCKS {
-            pack::<L>(&full, width, &mut bytes[number * len..number * len + len]);
-        }
+        pack_all::<L>(&full, width, &mut bytes);
         sum = sum.wrapping_add(u64::from(bytes[(round & 1023) as usize]));
     }
     sum

@@ -4,14 +4,6 @@ use block_core::{Block, Format, Steps};
 use std::process::Abort;
 use std::test::Fail;
 
-fn expect_format(rt: &impl Abort, format: Format, tag: u8, name: &str) {
-    assert_eq!(rt; (format.tag(), format.name()), (tag, name));
-    assert_eq!(rt;
-        (Format::from_tag(tag), Format::from_name(name)),
-        (Some(format), Some(format))
-    );
-}
-
 #[test]
 fn the_table_of_formats_is_as_written(rt: HostRuntime) -> Result<(), Fail> {
     for (format, tag, name) in [
@@ -24,7 +16,9 @@ fn the_table_of_formats_is_as_written(rt: HostRuntime) -> Result<(), Fail> {
         (Format::ReferenceDynamic, 6, "reference+dynamic"),
         (Format::Delta1Runs, 7, "delta1+runs"),
     ] {
-        expect_format(&rt, format, tag, name);
+        let told = (format.tag(), format.name()) == (tag, name);
+        let found = (Format::from_tag(tag), Format::from_name(name));
+        assert!(rt; told && found == (Some(format), Some(format)), "{name}");
     }
     Ok(())
 }
@@ -38,25 +32,26 @@ fn other_tags_and_names_are_no_format(rt: HostRuntime) -> Result<(), Fail> {
         (254, "delta1"),
         (255, "auto"),
     ] {
-        assert_eq!(rt;
-            (Format::from_tag(tag), Format::from_name(name)),
-            (None, None)
-        );
+        let found = (Format::from_tag(tag), Format::from_name(name));
+        assert!(rt; found == (None, None), "{tag} and {name:?}");
     }
     Ok(())
 }
 
 #[test]
 fn a_block_is_pushed_to_filled_and_written(rt: HostRuntime) {
-    let mut block = Block::new();
-    block.push(7);
-    assert_eq!(rt; block.as_slice(), [7].as_slice());
+    let mut block = Block::of(&[7]);
+    block.push(8);
+    block.append(&[9, 10]);
     block.fill();
-    assert_eq!(rt; block.as_slice().len(), 1024);
-    block.as_mut_slice()[1023] = 9;
-    assert_eq!(rt; block.as_slice()[1023], 9);
+    block.as_mut_slice()[1023] = 11;
+    let values = block.as_slice();
+    assert!(rt;
+        values.len() == 1024 && values.starts_with(&[7, 8, 9, 10]) && values[1023] == 11,
+        "the values"
+    );
     block.clear();
-    assert_eq!(rt; block.as_slice().len(), 0);
+    assert!(rt; block.as_slice().is_empty(), "a block without values");
     let mut steps = Steps::start(rt.alloc());
     steps.tick();
 }

@@ -1,18 +1,26 @@
-//! The calls that formats are made of: lanes, bit packing, and single blocks in the formats, each by its own crate.
+//! Blocks in memory: the lanes and packings that formats are made of, and single blocks in every format.
 //!
-//! Their contracts say what they compute. The tests here say that those definitions mean what was meant, with bytes worked by
-//! hand, and that the calls do it once they are built.
+//! Contracts say what the calls compute and which bytes are a block. The tests here say that those definitions mean what was
+//! meant, with sizes and bytes worked by hand, and that the calls succeed at each lane width once they are built.
 #![tactic(auto)]
 
 #[cfg(test)]
 mod blocks;
 #[cfg(test)]
-mod differences;
+mod encodings;
+#[cfg(test)]
+mod faults;
 #[cfg(test)]
 mod lanes;
 #[cfg(test)]
-mod packed_formats;
-#[cfg(test)]
 mod packing;
 #[cfg(test)]
+mod references;
+#[cfg(test)]
+mod round_trips;
+#[cfg(test)]
 mod runs;
+#[cfg(test)]
+mod transforms;
+#[cfg(test)]
+mod worked_blocks;

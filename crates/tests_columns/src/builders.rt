@@ -3,11 +3,11 @@
 ghost use Rattle.std.specs.Prelude.{◌≡◌, ◌≤◌, length, IfOk};
 ghost use Rattle.definitions_blocks.specs.Columns.{max_rows};
 
-use crate::files::FORMATS;
+use crate::files::RISEN;
 use crate::generic::push_all;
-use crate::shapes::Shape;
 use block_core::Format;
 use column_core::{Builder, Column, encode_list};
+use shapes::Shape;
 use std::alloc::{AllocError, Global};
 use std::process::Abort;
 use std::test::Fail;
@@ -48,8 +48,8 @@ fn expect_built_in_every_format(
     shape: Shape,
     count: u16,
 ) -> Result<(), AllocError> {
-    let values = shape.values(alloc, count)?;
-    for format in FORMATS {
+    let values = shape.values(alloc, count as usize)?;
+    for format in Format::ALL {
         expect_built(rt, alloc, values.as_slice(), format)?;
     }
     Ok(())
@@ -58,13 +58,9 @@ fn expect_built_in_every_format(
 #[test]
 fn values_pushed_one_by_one_give_the_file_of_the_list(rt: HostRuntime) -> Result<(), Fail> {
     for shape in [
-        Shape::Cycling(5),
-        Shape::Falling { first: u64::MAX },
-        Shape::Stepped {
-            first: 1,
-            place: 1024,
-            then: u64::MAX,
-        },
+        Shape::CYCLING,
+        Shape::FALLING_FROM_MOST,
+        RISEN,
     ] {
         for count in [0, 1, 1023, 1024, 1025, 2049u16] {
             expect_built_in_every_format(&rt, rt.alloc(), shape, count)?;

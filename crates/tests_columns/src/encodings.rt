@@ -1,12 +1,9 @@
 //! Files whose lengths and bytes were worked out by hand.
 
-ghost use Rattle.std.specs.Prelude.{◌≤◌, length};
-ghost use Rattle.definitions_blocks.specs.Columns.{max_rows};
-
-use crate::files::{FORMATS, file_of, head};
-use crate::shapes::Shape;
+use crate::files::{RISEN, column_of, file_of, head};
 use block_core::Format;
-use column_core::{Column, encode_list};
+use column_core::Column;
+use shapes::Shape;
 use std::alloc::{AllocError, Global};
 use std::process::Abort;
 use std::test::Fail;
@@ -26,8 +23,8 @@ fn a_column_of_no_values_is_its_head_in_every_format(rt: HostRuntime) -> Result<
         ),
         (Format::Delta1Runs, b"MCOL\x01\x07\0\0\0\0\0\0\0\0\0\0"),
     ] {
-        let column = encode_list(rt.alloc(), &[], format)?;
-        assert_eq!(rt; column.encoded(), expected.as_slice());
+        let column = column_of(rt.alloc(), RISEN, 0, format)?;
+        assert!(rt; column.encoded() == expected.as_slice(), "{format:?}");
         expect_column(&rt, &column, format, 0, 0, 16);
     }
     Ok(())
@@ -63,7 +60,11 @@ fn expect_column(
         column.static_width(),
         column.encoded().len(),
     );
-    assert_eq!(rt; found, (format, u64::from(count), width, len));
+    assert_eq!(rt;
+        found,
+        (format, u64::from(count), width, len),
+        "{count} values in {format:?}"
+    );
 }
 
 // At i mod 5 a difference is 1 or 4 less than 0, also to the value 16 places before, so it has all 64 bits. The runs of
@@ -73,16 +74,11 @@ fn expect_column(
 #[test]
 fn every_count_takes_the_bytes_that_were_worked_out(rt: HostRuntime) -> Result<(), Fail> {
     for (shape, width, cascades) in [
-        (Shape::Cycling(5), 3, [(393, 393), (4110, 4120)]),
-        (
-            Shape::Falling { first: u64::MAX },
-            64,
-            [(1289, 1289), (30, 30)],
-        ),
+        (Shape::CYCLING, 3, [(393, 393), (4110, 4120)]),
+        (Shape::FALLING_FROM_MOST, 64, [(1289, 1289), (30, 30)]),
     ] {
         let packed = 128 * u16::from(width);
         for count in [0, 1, 1023, 1024, 1025, 2049u16] {
-            let values = shape.values(rt.alloc(), count)?;
             for (format, blocks) in [
                 (Format::Plain, (8192, 8192)),
                 (Format::Static, (packed, packed)),
@@ -93,7 +89,7 @@ fn every_count_takes_the_bytes_that_were_worked_out(rt: HostRuntime) -> Result<(
                 (Format::ReferenceDynamic, cascades[0]),
                 (Format::Delta1Runs, cascades[1]),
             ] {
-                let column = encode_list(rt.alloc(), values.as_slice(), format)?;
+                let column = column_of(rt.alloc(), shape, count, format)?;
                 expect_column(&rt, &column, format, count, width, file_len(blocks, count));
             }
         }
@@ -105,14 +101,17 @@ fn every_count_takes_the_bytes_that_were_worked_out(rt: HostRuntime) -> Result<(
 fn expect_len(
     rt: &impl Abort,
     alloc: Global,
-    values: &[u64],
+    shape: Shape,
+    count: u16,
     format: Format,
     len: usize,
-) -> Result<(), AllocError>
-    requires few { length values.now ≤ max_rows }
-{
-    let column = encode_list(alloc, values, format)?;
-    assert_eq!(rt; column.encoded().len(), len, "{format:?}");
+) -> Result<(), AllocError> {
+    let column = column_of(alloc, shape, count, format)?;
+    assert_eq!(rt;
+        column.encoded().len(),
+        len,
+        "{shape:?} in {format:?}"
+    );
     Ok(())
 }
 
@@ -121,23 +120,18 @@ fn each_format_takes_the_bytes_that_were_worked_out(rt: HostRuntime) -> Result<(
     for (shape, count, sizes) in [
         (Shape::Constant(0), 1024, [8208, 16, 17, 28, 25, 25, 25, 36]),
         (
-            Shape::Stepped {
-                first: 1,
-                place: 1024,
-                then: u64::MAX,
-            },
+            RISEN,
             1025,
             [8216, 152, 153, 36, 33, 33, 33, 44],
         ),
         (
-            Shape::Falling { first: 1023 },
+            Shape::FALLING,
             1024,
             [8208, 1296, 1297, 10_258, 8217, 8217, 1305, 46],
         ),
     ] {
-        let values = shape.values(rt.alloc(), count)?;
-        for (format, size) in FORMATS.iter().zip(sizes.iter()) {
-            expect_len(&rt, rt.alloc(), values.as_slice(), *format, *size)?;
+        for (format, size) in Format::ALL.iter().zip(sizes.iter()) {
+            expect_len(&rt, rt.alloc(), shape, count, *format, *size)?;
         }
     }
     Ok(())
@@ -153,13 +147,12 @@ fn the_static_width_is_that_of_the_whole_blocks(rt: HostRuntime) -> Result<(), F
         (2047, 2047, 1),
         (2047, 2048, 64),
     ] {
-        let shape = Shape::Stepped {
+        let shape = Shape::Turning {
             first: 1,
-            place,
-            then: u64::MAX,
+            second: u64::MAX,
+            times: place,
         };
-        let values = shape.values(rt.alloc(), count)?;
-        let column = encode_list(rt.alloc(), values.as_slice(), Format::Static)?;
+        let column = column_of(rt.alloc(), shape, count, Format::Static)?;
         assert_eq!(rt;
             column.static_width(),
             width,
@@ -173,7 +166,6 @@ fn the_static_width_is_that_of_the_whole_blocks(rt: HostRuntime) -> Result<(), F
 fn each_file_has_the_bytes_that_were_worked_out(rt: HostRuntime) -> Result<(), Fail> {
     let ones = vec![in rt.alloc(); 0xff; 8064]?;
     let widest = file_of(rt.alloc(), head(2, 0, 1024), &[0x3f], ones.as_slice(), b"")?;
-    assert_eq!(rt; widest.len(), 8081);
     for (format, shape, expected) in [
         (
             Format::Dynamic,
@@ -187,7 +179,7 @@ fn each_file_has_the_bytes_that_were_worked_out(rt: HostRuntime) -> Result<(), F
         ),
         (
             Format::Delta1Runs,
-            Shape::Falling { first: 1023 },
+            Shape::FALLING,
             b"MCOL\x01\x07\0\0\0\x04\0\0\0\0\0\0\xff\x03\0\0\0\0\0\0\x02\0\0\0\0\0\0\0\0\0\x01\0\xff\xff\xff\xff\xff\xff\xff\xff\xff\x03",
         ),
         (
@@ -196,9 +188,8 @@ fn each_file_has_the_bytes_that_were_worked_out(rt: HostRuntime) -> Result<(), F
             b"MCOL\x01\x06\0\0\0\x04\0\0\0\0\0\0\xff\xff\xff\xff\xff\xff\xff\xff\0",
         ),
     ] {
-        let values = shape.values(rt.alloc(), 1024)?;
-        let column = encode_list(rt.alloc(), values.as_slice(), format)?;
-        assert_eq!(rt; column.encoded(), expected, "{shape:?} in {format:?}");
+        let column = column_of(rt.alloc(), shape, 1024, format)?;
+        assert!(rt; column.encoded() == expected, "{shape:?} in {format:?}");
     }
     Ok(())
 }

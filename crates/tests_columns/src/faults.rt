@@ -1,13 +1,9 @@
 //! Bytes that are no column file, and the first fault of each.
 
-ghost use Rattle.std.specs.Prelude.{◌≡◌, ◌≤◌, length};
-ghost use Rattle.definitions_blocks.specs.Columns.{max_rows};
-
-use crate::files::{FORMATS, fault_of, file_of, head, packed};
-use crate::shapes::Shape;
+use crate::files::{column_of, fault_of, file_of, head, packed};
 use block_core::Format;
-use column_core::encode_list;
 use column_file::ColumnError;
+use shapes::Shape;
 use std::alloc::Global;
 use std::process::Abort;
 use std::test::Fail;
@@ -66,7 +62,7 @@ fn expect_file_fault(
 
 #[test]
 fn fewer_than_sixteen_bytes_are_no_head(rt: HostRuntime) -> Result<(), Fail> {
-    for format in FORMATS {
+    for format in Format::ALL {
         let bytes = head(format.tag(), 0, 0);
         for len in 0..16 {
             expect_fault(&rt, rt.alloc(), &bytes[..len], HEADER)?;
@@ -78,7 +74,7 @@ fn fewer_than_sixteen_bytes_are_no_head(rt: HostRuntime) -> Result<(), Fail> {
 
 #[test]
 fn a_head_with_another_byte_among_the_first_eight_is_refused(rt: HostRuntime) -> Result<(), Fail> {
-    for format in FORMATS {
+    for format in Format::ALL {
         let least_bad_width = if format == Format::Static { 65 } else { 1 };
         for (place, byte) in [
             (0, b'N'),
@@ -97,7 +93,7 @@ fn a_head_with_another_byte_among_the_first_eight_is_refused(rt: HostRuntime) ->
             (7, 0xff),
         ] {
             let mut bytes = head(format.tag(), 0, 0);
-            assert!(rt; place < 8);
+            assert!(rt; place < 8, "byte {place}");
             bytes[place] = byte;
             expect_fault(&rt, rt.alloc(), &bytes, HEADER)?;
         }
@@ -109,7 +105,7 @@ fn a_head_with_another_byte_among_the_first_eight_is_refused(rt: HostRuntime) ->
 // take no bytes in `static`.
 #[test]
 fn a_count_above_268435456_is_refused(rt: HostRuntime) -> Result<(), Fail> {
-    for format in FORMATS {
+    for format in Format::ALL {
         for count in [268_435_457, 1 << 32, 1 << 61, u64::MAX] {
             let bytes = head(format.tag(), 0, count);
             expect_fault(&rt, rt.alloc(), &bytes, HEADER)?;
@@ -172,18 +168,15 @@ fn a_second_block_wider_than_its_values_is_refused(rt: HostRuntime) -> Result<()
     Ok(())
 }
 
-// A block of these values and then these bytes are no two blocks.
+// A block and then these bytes are no two blocks.
 fn expect_second_fault(
     rt: &impl Abort,
     alloc: Global,
-    values: &[u64],
     format: Format,
     front: &[u8],
     packed: &[u8],
-) -> Result<(), ColumnError>
-    requires { length values.now ≡ 1024 }
-{
-    let column = encode_list(alloc, values, format)?;
+) -> Result<(), ColumnError> {
+    let column = column_of(alloc, Shape::CYCLING, 1024, format)?;
     let head = head(format.tag(), column.static_width(), 2048);
     let bytes = file_of(alloc, head, column.block_bytes(0), front, packed)?;
     expect_fault(rt, alloc, bytes.as_slice(), SECOND)
@@ -191,7 +184,6 @@ fn expect_second_fault(
 
 #[test]
 fn a_second_block_that_is_none_is_refused_in_every_format(rt: HostRuntime) -> Result<(), Fail> {
-    let values = Shape::Cycling(5).values(rt.alloc(), 1024)?;
     let sevens = packed(rt.alloc(), 4, 7)?;
     let short = vec![in rt.alloc(); 0xff; 8191]?;
     let shorter = vec![in rt.alloc(); 0xff; 383]?;
@@ -206,7 +198,7 @@ fn a_second_block_that_is_none_is_refused_in_every_format(rt: HostRuntime) -> Re
         (Format::ReferenceDynamic, &FIVE_AT_ONE, ones.as_slice()),
         (Format::Delta1Runs, b"\0\0\0\0\0\0\0\0", &EQUAL_RUNS),
     ] {
-        expect_second_fault(&rt, rt.alloc(), values.as_slice(), format, front, packed)?;
+        expect_second_fault(&rt, rt.alloc(), format, front, packed)?;
     }
     Ok(())
 }
@@ -238,8 +230,7 @@ fn a_static_width_above_the_least_is_refused(rt: HostRuntime) -> Result<(), Fail
 // 128 bytes more.
 #[test]
 fn another_static_width_over_the_same_bytes_is_refused(rt: HostRuntime) -> Result<(), Fail> {
-    let values = Shape::Cycling(5).values(rt.alloc(), 1024)?;
-    let column = encode_list(rt.alloc(), values.as_slice(), Format::Static)?;
+    let column = column_of(rt.alloc(), Shape::CYCLING, 1024, Format::Static)?;
     let block = column.block_bytes(0);
     for (width, expected) in [(2, TAIL), (3, None), (4, FIRST)] {
         expect_file_fault(&rt, rt.alloc(), head(1, width, 1024), block, b"", expected)?;
@@ -249,7 +240,7 @@ fn another_static_width_over_the_same_bytes_is_refused(rt: HostRuntime) -> Resul
 
 #[test]
 fn a_tail_of_another_length_is_refused(rt: HostRuntime) -> Result<(), Fail> {
-    for format in FORMATS {
+    for format in Format::ALL {
         for (count, len, expected) in [
             (0, 1, TAIL),
             (0, 8, TAIL),
@@ -270,16 +261,9 @@ fn a_tail_of_another_length_is_refused(rt: HostRuntime) -> Result<(), Fail> {
     Ok(())
 }
 
-// A file with another count in its head.
-fn expect_count_faults(
-    rt: &impl Abort,
-    alloc: Global,
-    values: &[u64],
-    format: Format,
-) -> Result<(), ColumnError>
-    requires few { length values.now ≤ max_rows }
-{
-    let column = encode_list(alloc, values, format)?;
+// A file of two blocks and a value, with another count in its head.
+fn expect_count_faults(rt: &impl Abort, alloc: Global, format: Format) -> Result<(), ColumnError> {
+    let column = column_of(alloc, Shape::CYCLING, 2049, format)?;
     let body = column.encoded().get(16..).unwrap_or(b"");
     let no_block = if format == Format::Static {
         WIDTH
@@ -311,9 +295,8 @@ fn expect_count_faults(
 // not: neither as a width byte 3 nor as three runs nor as a base.
 #[test]
 fn a_count_that_lies_is_refused_in_every_format(rt: HostRuntime) -> Result<(), Fail> {
-    let values = Shape::Cycling(5).values(rt.alloc(), 2049)?;
-    for format in FORMATS {
-        expect_count_faults(&rt, rt.alloc(), values.as_slice(), format)?;
+    for format in Format::ALL {
+        expect_count_faults(&rt, rt.alloc(), format)?;
     }
     Ok(())
 }

@@ -1,22 +1,33 @@
 //! The bytes of column files, and what a reader says of them.
 
+ghost use Rattle.std.specs.Prelude.{◌≡◌, length, IfOk};
+
 use block_core::Format;
-use column_core::Column;
+use column_core::{Column, encode_list};
 use column_file::{ColumnError, read_column};
+use shapes::Shape;
 use std::alloc::{AllocError, Global};
 use stream_core::List;
 
-/// The formats, in the order of their tags.
-pub const FORMATS: [Format; 8] = [
-    Format::Plain,
-    Format::Static,
-    Format::Dynamic,
-    Format::Runs,
-    Format::Delta1Dynamic,
-    Format::Delta16Dynamic,
-    Format::ReferenceDynamic,
-    Format::Delta1Runs,
-];
+/// A block of ones, and then as many values as wide as can be.
+pub const RISEN: Shape = Shape::Turning {
+    first: 1,
+    second: u64::MAX,
+    times: 1024,
+};
+
+/// The column of so many values of a shape.
+pub fn column_of(
+    alloc: Global,
+    shape: Shape,
+    count: u16,
+    format: Format,
+) -> Result<Column, AllocError>
+    ensures { IfOk result (λ column. length column.values ≡ count) }
+{
+    let values = shape.values(alloc, count as usize)?;
+    encode_list(alloc, values.as_slice(), format)
+}
 
 /// The first 16 bytes of a file.
 pub fn head(tag: u8, width: u8, count: u64) -> [u8; 16] {

@@ -1,7 +1,8 @@
 //! Lists through the bounds of the traits that stand for them, and through nothing else.
 
-ghost use Rattle.std.specs.Prelude.{◌≡◌, ◌+◌, ◌≤◌, ◌++◌, true, length, OnOk};
+ghost use Rattle.std.specs.Prelude.{◌≡◌, ℕ, ◌≤◌, true, [], length, take, IsOk, OnOk, OnErr};
 ghost use Rattle.definitions_blocks.specs.Columns.{max_rows};
+ghost use Rattle.tests_columns.specs.Squares.{squares};
 
 use block_core::{Block, BlockSource, Emit, PlaceSource, Steps};
 use std::alloc::{AllocError, Global};
@@ -47,14 +48,30 @@ pub fn picked(alloc: Global, values: &[u64], places: &[u64]) -> Result<Vec<u64>,
 }
 
 /// Pushes the values in order.
-pub fn push_all<O: Emit>(into: &mut O, values: &[u64]) -> Result<(), AllocError>
-    requires few { length (O.list into.old) + length values.now ≤ max_rows }
-    requires in_scope { O.scope (O.frame into.old) (O.list into.old ++ values.now) ≡ true }
-    ensures list { OnOk result (O.list into.new ≡ O.list into.old ++ values.now) }
-    ensures frame { O.frame into.new ≡ O.frame into.old }
+pub fn push_all<E: Emit>(into: &mut E, values: &[u64]) -> Result<(), AllocError>
+    requires empty { E.pushed into.old [] }
+    requires few { length values.now ≤ max_rows }
+    requires in_scope { E.scope (E.frame into.old) values.now ≡ true }
+    ensures ok { OnOk result (E.pushed into.new values.now) }
+    ensures err { OnErr result ((n : ℕ) × E.pushed into.new (take n values.now)) }
+    ensures frame { E.frame into.new ≡ E.frame into.old }
+    ensures sure { E.room (E.frame into.old) values.now ≡ true → IsOk result }
 {
-    for value in values {
-        into.push(*value)?;
+    into.extend(values)
+}
+
+/// Pushes the squares of the numbers below this one.
+pub fn push_squares<E: Emit>(into: &mut E, below: u64) -> Result<(), AllocError>
+    requires empty { E.pushed into.old [] }
+    requires few { below ≤ max_rows }
+    requires in_scope { E.scope (E.frame into.old) (squares below) ≡ true }
+    ensures ok { OnOk result (E.pushed into.new (squares below)) }
+    ensures err { OnErr result ((n : ℕ) × E.pushed into.new (take n (squares below))) }
+    ensures frame { E.frame into.new ≡ E.frame into.old }
+    ensures sure { E.room (E.frame into.old) (squares below) ≡ true → IsOk result }
+{
+    for number in 0..below {
+        into.push(number * number)?;
     }
     Ok(())
 }

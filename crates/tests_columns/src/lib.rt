@@ -7,6 +7,10 @@
 #[cfg(test)]
 mod builders;
 #[cfg(test)]
+mod counters;
+#[cfg(test)]
+mod emitters;
+#[cfg(test)]
 mod encodings;
 #[cfg(test)]
 mod faults;
@@ -18,7 +22,5 @@ mod generic;
 mod prefixes;
 #[cfg(test)]
 mod reading;
-#[cfg(test)]
-mod shapes;
 #[cfg(test)]
 mod sources;

@@ -1,10 +1,9 @@
 //! Files that are cut, or have a byte too many.
 
-use crate::files::{FORMATS, fault_of};
-use crate::shapes::Shape;
+use crate::files::{column_of, fault_of};
 use block_core::Format;
-use column_core::encode_list;
 use column_file::ColumnError;
+use shapes::Shape;
 use std::alloc::Global;
 use std::process::Abort;
 use std::test::Fail;
@@ -64,8 +63,7 @@ fn expect_cut(
     first: u16,
     second: u16,
 ) -> Result<(), ColumnError> {
-    let values = Shape::Cycling(5).values(alloc, 2049)?;
-    let column = encode_list(alloc, values.as_slice(), format)?;
+    let column = column_of(alloc, Shape::CYCLING, 2049, format)?;
     let borders = Borders {
         first: 16 + first as usize,
         second: 16 + first as usize + second as usize,
@@ -112,8 +110,7 @@ fn expect_bytes_more(
     count: u16,
     format: Format,
 ) -> Result<(), Fail> {
-    let values = Shape::Cycling(5).values(alloc, count)?;
-    let column = encode_list(alloc, values.as_slice(), format)?;
+    let column = column_of(alloc, Shape::CYCLING, count, format)?;
     for byte in [0, 1, 0xff] {
         expect_byte_more(rt, alloc, column.encoded(), byte)?;
     }
@@ -123,7 +120,7 @@ fn expect_bytes_more(
 #[test]
 fn a_file_with_a_byte_more_is_refused_for_its_tail(rt: HostRuntime) -> Result<(), Fail> {
     for count in [0, 1, 1024, 2049u16] {
-        for format in FORMATS {
+        for format in Format::ALL {
             expect_bytes_more(&rt, rt.alloc(), count, format)?;
         }
     }

@@ -1,89 +1,62 @@
 //! Files that are read back.
 
-ghost use Rattle.std.specs.Prelude.{◌≡◌, ◌≤◌, length};
-ghost use Rattle.definitions_blocks.specs.Columns.{max_rows};
-
-use crate::files::{FORMATS, fault_of, file_of, head, packed, read};
+use crate::files::{column_of, fault_of, file_of, head, packed, read};
 use crate::generic::blocks_of;
-use crate::shapes::Shape;
 use block_core::Format;
 use column_core::{Column, Cursor, encode_list};
 use column_file::ColumnError;
+use shapes::Shape;
 use std::alloc::{AllocError, Global};
 use std::process::Abort;
 use std::test::Fail;
 
-// Two columns have the same head, the same file, the same encodings of blocks and the same values after the last whole block.
-fn expect_same(rt: &impl Abort, found: &Column, column: &Column) {
-    let head = (column.format(), column.static_width());
-    assert_eq!(rt; (found.format(), found.static_width()), head);
-    assert_eq!(rt; found.count(), column.count());
-    assert!(rt; found.encoded() == column.encoded(), "{head:?}");
-    expect_same_blocks(rt, found, column);
-    expect_same_tail(rt, found, column);
-}
-
-fn expect_same_blocks(rt: &impl Abort, found: &Column, column: &Column)
-    requires { length found.now.values ≡ length column.now.values }
-{
-    for block in 0..column.count() / 1024 {
-        let same = found.block_bytes(block) == column.block_bytes(block);
-        assert!(rt; same, "block {block}");
+// Whether there are as many values, and those after the last whole block are the list's.
+fn has_tail(column: &Column, values: &[u64]) -> bool {
+    if column.count() != values.len() as u64 {
+        return false;
     }
-}
-
-fn expect_same_tail(rt: &impl Abort, found: &Column, column: &Column)
-    requires { length found.now.values ≡ length column.now.values }
-{
-    for place in 0..column.count() % 1024 {
-        let same = found.tail_value(place) == column.tail_value(place);
-        assert!(rt; same, "value {place} of the tail");
-    }
-}
-
-// The values after the last whole block are the list's.
-fn expect_tail(rt: &impl Abort, column: &Column, values: &[u64]) {
     let (_, tail) = values.as_chunks::<1024>();
-    let format = column.format();
-    assert_eq!(rt; column.count(), values.len() as u64, "{format:?}");
-    for (place, expected) in tail.iter().enumerate() {
-        let found = column.tail_value(place as u64);
-        assert!(rt;
-            found == *expected,
-            "value {place} of the tail in {format:?}"
-        );
+    for (place, value) in tail.iter().enumerate() {
+        if column.tail_value(place as u64) != *value {
+            return false;
+        }
     }
+    true
 }
 
-// The file of these values is a column of the same bytes, blocks and values.
+// The file of these values is a column of the same head, bytes, blocks and values.
 fn expect_read_back(
     rt: &impl Abort,
     alloc: Global,
-    values: &[u64],
+    shape: Shape,
+    count: u16,
     format: Format,
-) -> Result<(), ColumnError>
-    requires few { length values.now ≤ max_rows }
-{
-    let column = encode_list(alloc, values, format)?;
+) -> Result<(), ColumnError> {
+    let values = shape.values(alloc, count as usize)?;
+    let column = encode_list(alloc, values.as_slice(), format)?;
     let found = read(alloc, column.encoded())?;
-    expect_same(rt, &found, &column);
-    expect_tail(rt, &found, values);
+    let head = (found.format(), found.count(), found.static_width());
     let blocks = blocks_of(alloc, &mut Cursor::<8>::new(&found))?;
-    assert!(rt; blocks.as_slice() == values, "{format:?}");
+    assert!(rt;
+        head == (format, u64::from(count), column.static_width())
+            && found.encoded() == column.encoded()
+            && blocks == values
+            && has_tail(&found, values.as_slice()),
+        "{count} values of {shape:?} in {format:?}"
+    );
     Ok(())
 }
 
 #[test]
 fn every_file_is_accepted_and_gives_its_column_back(rt: HostRuntime) -> Result<(), Fail> {
     for shape in [
-        Shape::Cycling(5),
-        Shape::Falling { first: u64::MAX },
-        Shape::Scattered { mask: 0x1fff },
+        Shape::CYCLING,
+        Shape::FALLING_FROM_MOST,
+        Shape::Scattered { bits: 13 },
     ] {
         for count in [0, 1, 1023, 1024, 1025, 2049u16] {
-            let values = shape.values(rt.alloc(), count)?;
-            for format in FORMATS {
-                expect_read_back(&rt, rt.alloc(), values.as_slice(), format)?;
+            for format in Format::ALL {
+                expect_read_back(&rt, rt.alloc(), shape, count, format)?;
             }
         }
     }
@@ -92,8 +65,7 @@ fn every_file_is_accepted_and_gives_its_column_back(rt: HostRuntime) -> Result<(
 
 // The encodings of the blocks, with the head before them and the tail's words behind them, are the file.
 fn expect_parts(rt: &impl Abort, alloc: Global, format: Format) -> Result<(), AllocError> {
-    let values = Shape::Cycling(5).values(alloc, 2049)?;
-    let column = encode_list(alloc, values.as_slice(), format)?;
+    let column = column_of(alloc, Shape::CYCLING, 2049, format)?;
     let bytes = file_of(
         alloc,
         head(format.tag(), column.static_width(), 2049),
@@ -107,7 +79,7 @@ fn expect_parts(rt: &impl Abort, alloc: Global, format: Format) -> Result<(), Al
 
 #[test]
 fn the_blocks_of_a_file_stand_between_its_head_and_its_tail(rt: HostRuntime) -> Result<(), Fail> {
-    for format in FORMATS {
+    for format in Format::ALL {
         expect_parts(&rt, rt.alloc(), format)?;
     }
     Ok(())

@@ -1,10 +1,10 @@
 //! Columns that are read by blocks and by places.
 
-use crate::files::{FORMATS, head, read};
+use crate::files::{RISEN, head, read};
 use crate::generic::{blocks_of, looked_up, picked};
-use crate::shapes::Shape;
 use block_core::{Block, BlockSource, Format, PlaceSource, Steps};
 use column_core::{Column, Cursor, Gather, encode_list};
+use shapes::Shape;
 use std::alloc::{AllocError, Global};
 use std::process::Abort;
 use std::test::Fail;
@@ -45,122 +45,52 @@ impl Order {
     }
 
     // The first places of the order, of which some may be behind the last value.
-    fn places(self, alloc: Global, steps: u16, count: u16) -> Result<Vec<u64>, AllocError> {
+    fn places(self, alloc: Global, steps: u64, count: u64) -> Result<Vec<u64>, AllocError> {
         let mut places = Vec::new(alloc);
         for step in 0..steps {
-            places.push(self.place(u64::from(step), u64::from(count)))?;
+            places.push(self.place(step, count))?;
         }
         Ok(places)
     }
 }
 
 // The shapes of the lists, at lengths with and without a tail.
-const LISTS: [(Shape, u16); 7] = [
-    (Shape::Cycling(5), 1),
-    (Shape::Cycling(5), 2049),
+const LISTS: [(Shape, usize); 7] = [
+    (Shape::CYCLING, 1),
+    (Shape::CYCLING, 2049),
     (Shape::Constant(u64::MAX), 1024),
-    (Shape::Falling { first: 1023 }, 2048),
-    (Shape::Scattered { mask: 0x1fff }, 3071),
-    (Shape::Scattered { mask: u64::MAX }, 2050),
-    (
-        Shape::Stepped {
-            first: 1,
-            place: 1024,
-            then: u64::MAX,
-        },
-        1025,
-    ),
+    (Shape::FALLING, 2048),
+    (Shape::Scattered { bits: 13 }, 3071),
+    (Shape::Scattered { bits: 64 }, 2050),
+    (RISEN, 1025),
 ];
 
-// At a lane width the column's blocks are the list.
-fn expect_blocks<const L: usize>(
+// Whether the values at the places, of which some may be behind the last value, are those of the list.
+fn finds<P: PlaceSource>(
+    alloc: Global,
+    source: &mut P,
+    values: &[u64],
+    places: &[u64],
+) -> Result<bool, AllocError> {
+    let found = looked_up(alloc, source, places)?;
+    let expected = picked(alloc, values, places)?;
+    Ok(found == expected)
+}
+
+// At a lane width the column's blocks are the list, and so are its values at the places, by one look-up over all orders.
+fn expect_at<const L: usize>(
     rt: &impl Abort,
     alloc: Global,
     column: &Column,
     values: &[u64],
     shape: Shape,
 ) -> Result<(), Fail> {
-    let found = blocks_of(alloc, &mut Cursor::<L>::new(column))?;
-    let format = column.format();
+    let (format, count) = (column.format(), column.count());
+    let blocks = blocks_of(alloc, &mut Cursor::<L>::new(column))?;
     assert!(rt;
-        found.as_slice() == values,
+        blocks.as_slice() == values,
         "{shape:?} in {format:?} at {L} lanes"
     );
-    Ok(())
-}
-
-#[test]
-fn the_blocks_of_every_format_are_one_list_at_every_lane_width(
-    rt: HostRuntime,
-) -> Result<(), Fail> {
-    for (shape, count) in LISTS {
-        let values = shape.values(rt.alloc(), count)?;
-        let values = values.as_slice();
-        for format in FORMATS {
-            let column = encode_list(rt.alloc(), values, format)?;
-            expect_blocks::<1>(&rt, rt.alloc(), &column, values, shape)?;
-            expect_blocks::<2>(&rt, rt.alloc(), &column, values, shape)?;
-            expect_blocks::<3>(&rt, rt.alloc(), &column, values, shape)?;
-            expect_blocks::<4>(&rt, rt.alloc(), &column, values, shape)?;
-            expect_blocks::<8>(&rt, rt.alloc(), &column, values, shape)?;
-            expect_blocks::<16>(&rt, rt.alloc(), &column, values, shape)?;
-        }
-    }
-    Ok(())
-}
-
-// Blocks in no order are those of the 2,050 values.
-fn expect_any_order(rt: &impl Abort, alloc: Global, column: &Column, values: &[u64]) {
-    let mut cursor = Cursor::<8>::new(column);
-    let mut steps = Steps::start(alloc);
-    let mut block = Block::new();
-    for (number, start, end) in [
-        (2, 2048, 2050),
-        (1, 1024, 2048),
-        (0, 0, 1024),
-        (2, 2048, 2050),
-    ] {
-        assert!(rt; number * 1024 < cursor.count(), "block {number}");
-        cursor.block(number, &mut block, &mut steps);
-        assert!(rt;
-            Some(block.as_slice()) == values.get(start..end),
-            "block {number}"
-        );
-    }
-}
-
-#[test]
-fn blocks_are_read_in_any_order(rt: HostRuntime) -> Result<(), Fail> {
-    let values = Shape::Scattered { mask: 0xffff }.values(rt.alloc(), 2050)?;
-    for format in FORMATS {
-        let column = encode_list(rt.alloc(), values.as_slice(), format)?;
-        expect_any_order(&rt, rt.alloc(), &column, values.as_slice());
-    }
-    Ok(())
-}
-
-// The values at the places, of which some may be behind the last value, are those of the list.
-fn expect_look_up<P: PlaceSource>(
-    rt: &impl Abort,
-    alloc: Global,
-    source: &mut P,
-    values: &[u64],
-    places: &[u64],
-) -> Result<(), AllocError> {
-    let found = looked_up(alloc, source, places)?;
-    let expected = picked(alloc, values, places)?;
-    assert!(rt; found == expected, "the places {places:?}");
-    Ok(())
-}
-
-// At a lane width the values at the places are those of the list, by one look-up over all orders.
-fn expect_places<const L: usize>(
-    rt: &impl Abort,
-    alloc: Global,
-    column: &Column,
-    values: &[u64],
-    count: u16,
-) -> Result<(), Fail> {
     let mut gather = Gather::<L>::new(column);
     for (order, steps) in [
         (Order::Ends, 12),
@@ -176,27 +106,59 @@ fn expect_places<const L: usize>(
         (Order::Repeated(2048), 3),
     ] {
         let places = order.places(alloc, steps, count)?;
-        expect_look_up(rt, alloc, &mut gather, values, places.as_slice())?;
+        let same = finds(alloc, &mut gather, values, places.as_slice())?;
+        assert!(rt; same, "{shape:?} in {format:?} at {L} lanes, {order:?}");
     }
     Ok(())
 }
 
 #[test]
-fn values_are_looked_up_in_every_order_in_every_format_at_every_lane_width(
+fn blocks_and_places_of_every_format_are_the_list_at_every_lane_width(
     rt: HostRuntime,
 ) -> Result<(), Fail> {
     for (shape, count) in LISTS {
         let values = shape.values(rt.alloc(), count)?;
         let values = values.as_slice();
-        for format in FORMATS {
+        for format in Format::ALL {
             let column = encode_list(rt.alloc(), values, format)?;
-            expect_places::<1>(&rt, rt.alloc(), &column, values, count)?;
-            expect_places::<2>(&rt, rt.alloc(), &column, values, count)?;
-            expect_places::<3>(&rt, rt.alloc(), &column, values, count)?;
-            expect_places::<4>(&rt, rt.alloc(), &column, values, count)?;
-            expect_places::<8>(&rt, rt.alloc(), &column, values, count)?;
-            expect_places::<16>(&rt, rt.alloc(), &column, values, count)?;
+            expect_at::<1>(&rt, rt.alloc(), &column, values, shape)?;
+            expect_at::<2>(&rt, rt.alloc(), &column, values, shape)?;
+            expect_at::<3>(&rt, rt.alloc(), &column, values, shape)?;
+            expect_at::<4>(&rt, rt.alloc(), &column, values, shape)?;
+            expect_at::<8>(&rt, rt.alloc(), &column, values, shape)?;
+            expect_at::<16>(&rt, rt.alloc(), &column, values, shape)?;
         }
+    }
+    Ok(())
+}
+
+// Blocks in no order are those of the 2,050 values.
+fn expect_any_order(rt: &impl Abort, alloc: Global, column: &Column, values: &[u64]) {
+    let mut cursor = Cursor::<8>::new(column);
+    let mut steps = Steps::start(alloc);
+    let mut block = Block::new();
+    let format = column.format();
+    for (number, start, end) in [
+        (2, 2048, 2050),
+        (1, 1024, 2048),
+        (0, 0, 1024),
+        (2, 2048, 2050),
+    ] {
+        assert!(rt; number * 1024 < cursor.count(), "block {number}");
+        cursor.block(number, &mut block, &mut steps);
+        assert!(rt;
+            Some(block.as_slice()) == values.get(start..end),
+            "block {number} in {format:?}"
+        );
+    }
+}
+
+#[test]
+fn blocks_are_read_in_any_order(rt: HostRuntime) -> Result<(), Fail> {
+    let values = Shape::Scattered { bits: 16 }.values(rt.alloc(), 2050)?;
+    for format in Format::ALL {
+        let column = encode_list(rt.alloc(), values.as_slice(), format)?;
+        expect_any_order(&rt, rt.alloc(), &column, values.as_slice());
     }
     Ok(())
 }
@@ -205,8 +167,8 @@ fn values_are_looked_up_in_every_order_in_every_format_at_every_lane_width(
 // single values a block is opened once many were looked up in it with no other block between, after 64 at the latest.
 #[test]
 fn values_stay_the_same_when_their_block_is_opened(rt: HostRuntime) -> Result<(), Fail> {
-    let values = Shape::Scattered { mask: 0xffff }.values(rt.alloc(), 2050)?;
-    for format in FORMATS {
+    let values = Shape::Scattered { bits: 16 }.values(rt.alloc(), 2050)?;
+    for format in Format::ALL {
         let column = encode_list(rt.alloc(), values.as_slice(), format)?;
         for (order, steps) in [
             (Order::Rising, 66),
@@ -221,7 +183,8 @@ fn values_stay_the_same_when_their_block_is_opened(rt: HostRuntime) -> Result<()
         ] {
             let places = order.places(rt.alloc(), steps, 2050)?;
             let mut gather = Gather::<8>::new(&column);
-            expect_look_up(&rt, rt.alloc(), &mut gather, values.as_slice(), &places)?;
+            let same = finds(rt.alloc(), &mut gather, values.as_slice(), places.as_slice())?;
+            assert!(rt; same, "{format:?}, {order:?}");
         }
     }
     Ok(())
@@ -231,11 +194,11 @@ fn values_stay_the_same_when_their_block_is_opened(rt: HostRuntime) -> Result<()
 fn the_longest_column_of_zeros_is_sixteen_bytes(rt: HostRuntime) -> Result<(), Fail> {
     let column = read(rt.alloc(), &head(1, 0, 268_435_456))?;
     let head = (column.format(), column.count(), column.static_width());
-    assert_eq!(rt; head, (Format::Static, 268_435_456, 0));
+    assert!(rt; head == (Format::Static, 268_435_456, 0), "the head");
     let lengths = (column.encoded().len(), column.block_bytes(262_143).len());
-    assert_eq!(rt; lengths, (16, 0));
+    assert!(rt; lengths == (16, 0), "the lengths of the file and of the last block");
     let places = [0, 1023, 1024, 134_217_728, 268_435_455, 0];
     let found = looked_up(rt.alloc(), &mut Gather::<8>::new(&column), &places)?;
-    assert_eq!(rt; found.as_slice(), [0; 6].as_slice());
+    assert!(rt; found.as_slice() == [0; 6].as_slice(), "the values");
     Ok(())
 }

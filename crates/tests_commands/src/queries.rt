@@ -1,6 +1,6 @@
 //! Queries that have an answer.
 
-use crate::worlds::{FORMATS, TEXT, column_bytes, example_with, expect, now_file};
+use crate::worlds::{TEXT, answers, column_bytes, example_with, expect, now_file};
 use block_core::Format;
 use std::alloc::{AllocError, Global};
 use std::process::Abort;
@@ -84,32 +84,41 @@ fn an_empty_table_and_the_other_slot_are_read(rt: HostRuntime) -> Result<(), Fai
     Ok(())
 }
 
+/// The example's sum is the same where `a` is of this format.
+fn expect_sum_in(rt: &impl Abort, alloc: Global, format: Format) -> Result<(), AllocError> {
+    let a = column_bytes(alloc, &[10, 20, 30, 40, 50], format)?;
+    let mut store = example_with(alloc, &[("t.a.a.col", a.as_slice())])?;
+    let answered = answers(alloc, &mut store, TEXT, 0, "90\n")?;
+    assert!(rt; answered, "{format:?}");
+    Ok(())
+}
+
 #[test]
 fn columns_of_every_format_give_the_same_answer(rt: HostRuntime) -> Result<(), Fail> {
-    for format in FORMATS {
-        let a = column_bytes(rt.alloc(), &[10, 20, 30, 40, 50], format)?;
-        let mut store = example_with(rt.alloc(), &[("t.a.a.col", a.as_slice())])?;
-        expect(&rt, rt.alloc(), &mut store, TEXT, 0, "90\n")?;
+    for format in Format::ALL {
+        expect_sum_in(&rt, rt.alloc(), format)?;
     }
     Ok(())
 }
 
-/// 2,049 rows in these formats: `a` is the row's number, and `b` is 1 in each third row.
-fn expect_sums_of_blocks<'a>(
+/// 2,049 rows: `a` is the row's number, in this format, and `b` is 1 in each third row, in the other format.
+fn expect_sums_of_blocks(
     rt: &impl Abort,
     alloc: Global,
-    a: &'a [u8],
-    b: &'a [u8],
+    numbers: (Format, &[u64]),
+    thirds: (Format, &[u64]),
 ) -> Result<(), AllocError> {
+    let a = column_bytes(alloc, numbers.1, numbers.0)?;
+    let b = column_bytes(alloc, thirds.1, thirds.0)?;
     let mut store = example_with(
         alloc,
         &[
             ("t.now", b"MNOWa\x01\x08\0\0\0\0\0\0"),
-            ("t.a.a.col", a),
-            ("t.a.b.col", b),
+            ("t.a.a.col", a.as_slice()),
+            ("t.a.b.col", b.as_slice()),
         ],
     )?;
-    for (text, answer) in [
+    for (text, line) in [
         ("select sum(a) from t", "2098176\n"),
         ("select sum(a) from t where b between 1 and 1", "698709\n"),
         ("select sum(b) from t where a between 1023 and 1025", "1\n"),
@@ -118,24 +127,24 @@ fn expect_sums_of_blocks<'a>(
             "2048\n",
         ),
     ] {
-        expect(rt, alloc, &mut store, text, 0, answer)?;
+        let answered = answers(alloc, &mut store, text, 0, line)?;
+        assert!(rt; answered, "{text} over {:?}, and not {line}", numbers.0);
     }
     Ok(())
 }
 
 #[test]
 fn whole_blocks_of_every_format_are_summed(rt: HostRuntime) -> Result<(), Fail> {
-    let alloc = rt.alloc();
-    let mut numbers = Vec::new(alloc);
-    let mut thirds = Vec::new(alloc);
+    let mut numbers = Vec::new(rt.alloc());
+    let mut thirds = Vec::new(rt.alloc());
     for row in 0..2049u64 {
         numbers.push(row)?;
         thirds.push(u64::from(row % 3 == 0))?;
     }
-    for (format, other) in FORMATS.iter().zip(FORMATS.iter().rev()) {
-        let a = column_bytes(alloc, numbers.as_slice(), *format)?;
-        let b = column_bytes(alloc, thirds.as_slice(), *other)?;
-        expect_sums_of_blocks(&rt, alloc, a.as_slice(), b.as_slice())?;
+    for (format, other) in Format::ALL.iter().zip(Format::ALL.iter().rev()) {
+        let numbers = (*format, numbers.as_slice());
+        let thirds = (*other, thirds.as_slice());
+        expect_sums_of_blocks(&rt, rt.alloc(), numbers, thirds)?;
     }
     Ok(())
 }

@@ -1,6 +1,6 @@
 //! Texts, words and files out of form.
 
-use crate::worlds::{TEXT, column_bytes, command, example_with, example_without, expect, source};
+use crate::worlds::{TEXT, answers, column_bytes, command, example_with, example_without, expect, source};
 use block_core::Format;
 use std::alloc::{AllocError, Global};
 use std::process::Abort;
@@ -77,8 +77,10 @@ fn no_command(rt: &impl Abort, alloc: Global, words: &[&str]) -> Result<(), Allo
         let list = words_of(alloc, words)?;
         let mut out = MemSink::new(alloc, 100, List::from_vec(Vec::new(alloc)))?;
         let (found, written) = command(alloc, list.as_slice(), &mut store, &mut input, &mut out)?;
-        assert_eq!(rt; found, status, "{words:?}");
-        assert_eq!(rt; written.as_slice(), line.as_bytes(), "{words:?}");
+        assert!(rt;
+            found == status && written.as_slice() == line.as_bytes(),
+            "{words:?}, and not {line}"
+        );
     }
     Ok(())
 }
@@ -108,8 +110,9 @@ fn refused(
     line: &str,
 ) -> Result<(), AllocError> {
     let mut store = example_with(alloc, &[(name, bytes)])?;
-    expect(rt, alloc, &mut store, TEXT, 4, line)?;
-    assert_eq!(rt; store.file(name).expect(rt, "the file is there"), bytes);
+    let answered = answers(alloc, &mut store, TEXT, 4, line)?;
+    let kept = store.file(name) == Some(bytes);
+    assert!(rt; answered && kept, "{name} of {bytes:?}, and not {line}");
     Ok(())
 }
 
