@@ -1,6 +1,6 @@
 use Rattle.std.proofs.Common.{◌≡◌, ◌+◌, ◌*◌, ◌++◌, List, ℕ, take, ap, ap₂, ◌∙◌, arith}
 use Rattle.definitions_blocks.specs.Blocks.{block_values, block_at}
-use Rattle.definitions_columns.proofs.PieceLaws.{take_blocks}
+use Rattle.definitions_columns.proofs.PlaceLaws.{take_blocks}
 use Rattle.engine_tool.proofs.decoding.decoded.Goals as goal
 
 pub loop-number-preserved : goal.loop-number-preserved
