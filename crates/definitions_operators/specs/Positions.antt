@@ -11,6 +11,6 @@ pub record IsPositionList (test : ℕ → Bool) (n : ℕ) (positions : List ℕ)
   pub rises : Rises positions
   pub members : (place : ℕ) → Contains positions place ↔ ((place < n) × IsTrue (test place))
 
--- of n places a test has one position list
+-- of n places a test has one position list: those at which it holds
 abbrev pub OnePositionList : Type 0
 OnePositionList = (test : ℕ → Bool) (n : ℕ) (positions : List ℕ) → IsPositionList test n positions ↔ (positions ≡ places_where test n)
