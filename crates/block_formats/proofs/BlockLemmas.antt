@@ -12,7 +12,7 @@ use Rattle.definitions_blocks.proofs.EncodingLaws.{words_from_below, words_of-fr
 use Rattle.definitions_blocks.specs.Words.{word_of}
 use Rattle.strand_pack.proofs.WordBits.{word_of-lt}
 
--- where the words of bytes are the values, the bytes encode them
+-- if the words of bytes are the values, the bytes encode them
 pub encoded_by_words : (values bytes : List ℕ) → length bytes ≡ 8 * length values → ((k : ℕ) → get_or bytes k 0 < 256) → ((i : ℕ) → i < length values → word_of bytes i ≡ get_or values i 0) → words_of values ≡ bytes
 unfolding word_of
 encoded_by_words values bytes size octets each = words_of-from_words values bytes size octets each
