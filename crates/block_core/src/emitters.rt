@@ -22,7 +22,7 @@ pub trait Emit {
     /// Which lists the emitter is sure to take. With a list it holds the list's prefixes.
     ghost room: { Frame → List ℕ → Bool };
 
-    /// Appends a value. An `Err` changes nothing, and none comes where there is room.
+    /// Appends a value. An `Err` changes nothing, and none comes if there is room.
     fn push(&mut self, value: u64) -> Result<(), AllocError>
         requires { (list : List ℕ) × pushed self.old list × (length list < max_rows)
             × (scope (frame self.old) (list ++ value ∷ []) ≡ true) }
@@ -31,7 +31,7 @@ pub trait Emit {
         ensures frame { frame self.new ≡ frame self.old }
         ensures sure { (list : List ℕ) → pushed self.old list → room (frame self.old) (list ++ value ∷ []) ≡ true → IsOk result };
 
-    /// Appends values. After an `Err` some of the first of them were appended, and none comes where there is room.
+    /// Appends values. After an `Err` some of the first of them were appended, and none comes if there is room.
     fn extend(&mut self, values: &[u64]) -> Result<(), AllocError>
         requires { (list : List ℕ) × pushed self.old list × (length list + length values.now ≤ max_rows)
             × (scope (frame self.old) (list ++ values.now) ≡ true) }

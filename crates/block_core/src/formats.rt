@@ -53,14 +53,14 @@ impl Format {
         }
     }
 
-    /// The format that has the tag, where one has it.
+    /// The format that has the tag, if one has it.
     pub fn from_tag(tag: u8) -> Option<Format>
         ensures { MatchOption result ((format : Format) → tag_of format ≢ tag) (λ format. tag_of format ≡ tag) }
     {
         Format::ALL.get(tag as usize).copied()
     }
 
-    /// The format that has the name, where one has it.
+    /// The format that has the name, if one has it.
     pub fn from_name(name: &str) -> Option<Format>
         ensures { MatchOption result ((format : Format) → name_of format ≢ name.now) (λ format. name_of format ≡ name.now) }
     {

@@ -41,7 +41,7 @@ pub trait Packing {
         requires headed { head ≡ block_head param full.now }
         ensures { encodes param full.now into.new };
 
-    /// The head and the length of the block that the bytes begin with, where they begin with one.
+    /// The head and the length of the block that the bytes begin with, if they begin with one.
     fn check(param: Self::Param, bytes: &[u8]) -> Option<(Self::Head, usize)>
         ensures { MatchOption result (NoBlock encodes param bytes.now)
             (λ found. BlockAt encodes block_head param bytes.now found.0 found.1) };

@@ -1,5 +1,5 @@
--- The mask of the lanes that lie in a range, from one comparison: `x - low`, mod 2 ^ 64, is at most `high - low` exactly
--- where x is from low to high.
+-- The mask of the lanes that lie in a range, from one comparison: `x - low`, mod 2 ^ 64, is at most `high - low` exactly if
+-- x is from low to high.
 use Rattle.std.proofs.Common.{◌≡◌, ℕ, ◌+◌, ◌-◌, ◌%◌, ◌^◌, ◌<◌, ◌≤◌, ◌↔◌, Bool, true, false, cond, leb, List, map, length, get_or, replicate, Fits, w16, w64, sym, subst, ap, ◌∙◌, arith}
 use Rattle.std.proofs.lemmas.Simd.{zip2_splat, bitmask_splat, map-map, mask_l-lt, bit_mask_l, length-zip2, length-replicate}
 use Rattle.std.proofs.lemmas.List.{get_or-map, length-map}
@@ -38,7 +38,7 @@ mask_fits p lanes n long few =
     let most : 2 ^ n ≤ 2 ^ 16 = pow-le-pow_right (omega arith) few in
     record { fits = omega arith }
 
--- a bit that is 1 exactly where a test passes is set exactly there
+-- a bit that is 1 exactly if a test passes is set exactly then
 set_where : (test : Bool) (mask lane : ℕ) → bit_at mask lane ≡ cond test 1 0 → IsBitSet mask lane ↔ (test ≡ true)
 set_where true mask lane bit = grind (arith, and_pow, pow_pos, bit)
 set_where false mask lane bit = grind (arith, and_pow, bit)
@@ -49,7 +49,7 @@ inside_lies low high x order top fits small = (omega arith, omega arith)
 lies_inside : (low high x : ℕ) → high < 2 ^ 64 → low ≤ x → x ≤ high → difference x low ≤ high - low
 lies_inside low high x top above below = omega arith
 
--- bit `lane` of the mask is set exactly where that lane lies in the range
+-- bit `lane` of the mask is set exactly if that lane lies in the range
 pub mask_bit : (low high : ℕ) (lanes : List ℕ) (lane : ℕ) → low ≤ high → high < 2 ^ 64 → get_or lanes lane 0 < 2 ^ 64 → lane < length lanes
     → IsBitSet (mask_l (map (is_inside low (high - low)) lanes)) lane ↔ ((low ≤ get_or lanes lane 0) × (get_or lanes lane 0 ≤ high))
 mask_bit low high lanes lane order top fits within =

@@ -19,7 +19,7 @@ pub field_none : (low high offset : ℕ) → field low high offset 0 ≡ 0
 unfolding field
 field_none low high offset = omega arith
 
--- the low bits of a number are a field where its bits are those of the two words
+-- the low bits of a number are a field if its bits are those of the two words
 taken : (n low high offset width : ℕ) → ((b : ℕ) → b < width → bit_at n b ≡ bit_at (high * 2 ^ 64 + low) (offset + b)) → bit_and n (2 ^ width - 1) ≡ field low high offset width
 taken n low high offset width bits =
     and_mask n width

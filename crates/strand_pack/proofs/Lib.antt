@@ -3,6 +3,7 @@ pub mod Fields
 pub mod Values
 pub mod LaneLaws
 pub mod StrandTotals
-pub mod Strands
+pub mod EncodedStrands
+pub mod BegunStrands
 pub mod WidthLaws
 pub mod HighestBits

@@ -57,7 +57,7 @@ pub word_read : (bytes : List ℕ) (k j : ℕ) (d : List ℕ) (words : List (Lis
 unfolding word_of
 word_read bytes k j d words cut within = ap (λ l. from_le_bytes w64 (get_or l j d)) cut ∙ ap (from_le_bytes w64) (get_or-first_chunks 8 k bytes j d within)
 
--- a word depends on its bytes alone
+-- a word depends only on its bytes
 pub word_of-same : (a b : List ℕ) (j : ℕ) → ((k : ℕ) → k < 8 → get_or a (8 * j + k) 0 ≡ get_or b (8 * j + k) 0) → word_of a j ≡ word_of b j
 unfolding byte_of
 word_of-same a b j same = word_total a j ∙ total_same 8 (byte_of a j) (byte_of b j) 8 same ∙ sym (word_total b j)

@@ -1,7 +1,7 @@
 use Rattle.std.proofs.Common.{◌≡◌, ◌+◌, ◌*◌, ◌/◌, ◌≤◌, subst, arith}
 use Rattle.std.proofs.Math.Nat.{mul-le-mul_right}
 use Rattle.strand_pack.specs.Words.{AreEncoded}
-use Rattle.strand_pack.proofs.Strands.{IsPacked-from_encoded, AreEncoded-more}
+use Rattle.strand_pack.proofs.EncodedStrands.{IsPacked-from_encoded, AreEncoded-more}
 use Rattle.strand_pack.proofs.packing.pack_groups.Goals as goal
 
 pub loop-group-preserved : goal.loop-group-preserved

@@ -1,7 +1,7 @@
 use Rattle.std.proofs.Common.{◌≡◌, ℕ, ◌+◌, ◌-◌, ◌*◌, ◌^◌, ◌<◌, length, get_or, sym, subst, ap, ◌∙◌, arith}
 use Rattle.std.proofs.lemmas.List.{get_or-replicate, length-replicate}
 use Rattle.strand_pack.proofs.LaneLaws.{loaded_at}
-use Rattle.strand_pack.proofs.Strands.{AreBegun-none, AreBegun-inside, AreBegun-full, AreBegun-at, AreEncoded-from_begun, IsRow, AreWritten}
+use Rattle.strand_pack.proofs.BegunStrands.{AreBegun-none, AreBegun-inside, AreBegun-full, AreBegun-at, AreEncoded-from_begun, IsRow, AreWritten}
 use Rattle.strand_pack.proofs.packing.pack_strands.Goals as goal
 use Rattle.strand_pack.proofs.packing.pack_strands.Goals.{then-width-room, else-width-room}
 

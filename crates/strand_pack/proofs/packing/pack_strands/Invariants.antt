@@ -1,5 +1,5 @@
 -- Of each strand, the words that are written and the bits above them are the number that the rows so far make.
-use Rattle.strand_pack.proofs.Strands.{AreBegun}
+use Rattle.strand_pack.proofs.BegunStrands.{AreBegun}
 use Rattle.strand_pack.proofs.packing.pack_strands.Given as goal
 
 abbrev pub invariant-loop-row : goal.invariant-loop-row

@@ -1,4 +1,4 @@
--- A bit is unset where no word before the strand has it.
+-- A bit is unset exactly if no word before the strand has it.
 use Rattle.std.proofs.Common.{◌≡◌, ◌↔◌, ℕ, ◌+◌, ◌*◌, ◌<◌}
 use Rattle.std.specs.Int.{bit_at}
 use Rattle.definitions_blocks.specs.Packed.{word_bit}

@@ -1,28 +1,17 @@
 -- Strands while they are packed: the words that are written and the bits above them are the number that the rows so far make.
-use Rattle.std.proofs.Common.{◌≡◌, ℕ, ◌+◌, ◌-◌, ◌*◌, ◌/◌, ◌%◌, ◌^◌, ◌<◌, ◌≤◌, ◌⊎◌, List, length, get_or, bit_or, refl, sym, ap, ap₂, ◌∙◌, subst, inl, inr, arith}
-use Rattle.std.specs.Int.{bit_at}
+use Rattle.std.proofs.Common.{◌≡◌, ℕ, ◌+◌, ◌-◌, ◌*◌, ◌/◌, ◌%◌, ◌^◌, ◌<◌, ◌≤◌, List, length, get_or, bit_or, refl, sym, ap, ap₂, ◌∙◌, subst, inl, inr, arith}
 use Rattle.std.proofs.Math.Nat.{pow-le-pow_right}
 use Rattle.std.proofs.lemmas.Bool.{cases_lt}
-use Rattle.std.proofs.lemmas.Nat.{shr_below, mul-add-lt}
-use Rattle.definitions_blocks.specs.Packed.{strand_bit, AreBelow, IsPacked}
-use Rattle.definitions_blocks.proofs.BitLaws.{total, total-zero, total_more, total_bit, total_same, Below}
+use Rattle.std.proofs.lemmas.Nat.{shr_below}
+use Rattle.definitions_blocks.specs.Packed.{AreBelow}
+use Rattle.definitions_blocks.proofs.BitLaws.{total, total-zero, total_more, total_same}
 use Rattle.definitions_blocks.specs.Words.{word_of}
 use Rattle.strand_pack.specs.Words.{AreEncoded}
-use Rattle.definitions_blocks.proofs.WordListLaws.{word_of-lt}
-use Rattle.strand_pack.proofs.WordBits.{word_of-bit, word_of-same}
+use Rattle.strand_pack.proofs.WordBits.{word_of-same}
 use Rattle.strand_pack.proofs.StrandTotals.{or_added, joined_lt, row_inside, row_full}
+use Rattle.strand_pack.proofs.EncodedStrands.{word_in, value_of, IsBeside, one_strand}
 
--- word `line` of a strand, and the value in a row of it
-abbrev pub word_in : List ℕ → ℕ → ℕ → ℕ
-word_in bytes strand line = word_of bytes (line * 16 + strand)
-
-abbrev pub value_of : List ℕ → ℕ → ℕ → ℕ
-value_of values strand row = get_or values (row * 16 + strand) 0
-
--- byte k is in none of the n strands from the first on
-abbrev pub IsBeside : ℕ → ℕ → ℕ → Type 0
-IsBeside first n k = (k / 8 % 16 < first) ⊎ (first + n ≤ k / 8 % 16)
-
+-- so many rows of n strands are packed: so many lines of words are written, and the other bits stand in a word for each strand
 pub record AreBegun (width first n row line bits : ℕ) (full into words start : List ℕ) : Type 0 where
   pub lanes : length words ≡ n
   pub room : bits < 64
@@ -138,22 +127,7 @@ AreBegun-at width first n row line bits line' bits' full into words start into' 
     (subst (λ i. AreBegun width first n row line bits full i words' start) (sym bytes)
     (subst (λ w. AreBegun width first n row line bits full into w start) (sym lanes) begun)))
 
--- a strand whose words are the number that its values make encodes them
-one_strand : (width rows strand row b : ℕ) (values bytes : List ℕ) → ((k : ℕ) → get_or bytes k 0 < 2 ^ 8) → Below width (value_of values strand) rows
-    → total 64 (word_in bytes strand) width ≡ total width (value_of values strand) rows → rows ≡ 64 → row < rows → b < width
-    → bit_at (value_of values strand row) b ≡ strand_bit bytes strand (row * width + b)
-one_strand width rows strand row b values bytes octets small same all within low =
-    let k = row * width + b in
-    let inside : row * width + b < width * rows = mul-add-lt row width b rows within low in
-    let most : width * rows ≡ width * 64 = ap (λ n. width * n) all in
-    let word : k / 64 < width = omega arith in
-    let place : k / 64 * 64 + k % 64 ≡ k = omega arith in
-    sym (total_bit width (value_of values strand) rows row b small within low)
-    ∙ ap (λ n. bit_at n k) (sym same)
-    ∙ ap (λ m. bit_at (total 64 (word_in bytes strand) width) m) (sym place)
-    ∙ total_bit 64 (word_in bytes strand) width (k / 64) (k % 64) (λ r below. word_of-lt bytes (r * 16 + strand) octets) word (omega arith)
-    ∙ word_of-bit bytes (k / 64 * 16 + strand) (k % 64) octets (omega arith)
-
+-- strands of which all rows are packed encode their values
 pub AreEncoded-from_begun : (width first n row line bits : ℕ) (full into words start : List ℕ) → AreBegun width first n row line bits full into words start → row ≡ 64 → first + n ≤ 16
     → length full ≡ 1024 → AreBelow width full → ((k : ℕ) → get_or into k 0 < 2 ^ 8) → AreEncoded width first (first + n) full into
 AreEncoded-from_begun width first n row line bits full into words start begun all fits whole small octets = record {
@@ -173,33 +147,4 @@ AreEncoded-from_begun width first n row line bits full into words start begun al
       let encoded : total 64 (word_in into strand) width ≡ total width (value_of full strand) row =
       ap (λ w. total 64 (word_in into strand) w) (sym lines) ∙ ap (λ s. total 64 (word_in into s) line) (sym here) ∙ same ∙ ap (λ s. total width (value_of full s) row) here in
       one_strand width row strand r b full into octets (λ q before. small (q * 16 + strand) (omega arith)) encoded all (omega arith) low;
-}
-
--- a block whose 16 strands are encoded is packed
-pub IsPacked-from_encoded : (width past : ℕ) (values bytes : List ℕ) → past ≡ 16 → width ≤ 64 → length values ≡ 1024 → length bytes ≡ 128 * width → ((k : ℕ) → get_or bytes k 0 < 2 ^ 8) → AreBelow width values
-    → AreEncoded width 0 past values bytes → IsPacked width values bytes
-IsPacked-from_encoded width past values bytes all narrow count size octets small encoded = record {
-  narrow = narrow;
-  count = count;
-  size = size;
-  octets = octets;
-  small = small;
-  bits = λ i b within low.
-      let place : i ≡ i / 16 * 16 + i % 16 = omega arith in
-      ap (λ j. bit_at (get_or values j 0) b) place ∙ encoded.bits (i % 16) (i / 16) b (omega arith) (omega arith) (omega arith) low;
-}
-
--- more strands are encoded: the earlier ones are left alone
-pub AreEncoded-more : (width first n : ℕ) (values bytes after : List ℕ) → first + n ≤ 16 → AreEncoded width 0 first values bytes → AreEncoded width first (first + n) values after
-    → ((k : ℕ) → IsBeside first n k → get_or after k 0 ≡ get_or bytes k 0) → AreEncoded width 0 (first + n) values after
-AreEncoded-more width first n values bytes after fits old new same = record {
-  bits = λ strand row b from below rows low.
-      elim (cases_lt strand first) [
-        | inl earlier ↦
-            let k = row * width + b in
-            let byte = 8 * (k / 64 * 16 + strand) + k % 64 / 8 in
-            let there : byte / 8 % 16 < first = omega arith in
-            old.bits strand row b from earlier rows low ∙ ap (λ v. bit_at v (k % 64 % 8)) (sym (same byte (inl there)))
-        | inr later ↦ new.bits strand row b later below rows low
-      ];
 }
