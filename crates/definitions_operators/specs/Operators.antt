@@ -10,13 +10,17 @@ places n = range_with_len 0 n
 abbrev pub places_where : (ℕ → Bool) → ℕ → List ℕ
 places_where test n = filter test (places n)
 
+-- the places of the values that pass the test, rising
+abbrev pub passing_places : (ℕ → Bool) → List ℕ → List ℕ
+passing_places test values = places_where (λ place. test (slice_index values place)) (length values)
+
 -- whether a value is from low to high
 abbrev pub is_within : ℕ → ℕ → ℕ → Bool
 is_within low high value = nat_le low value && nat_le value high
 
 -- a selection: the places of the values from low to high
 abbrev pub positions_in : ℕ → ℕ → List ℕ → List ℕ
-positions_in low high values = places_where (λ place. is_within low high (slice_index values place)) (length values)
+positions_in low high values = passing_places (is_within low high) values
 
 -- a projection: the values at the positions
 abbrev pub values_at : List ℕ → List ℕ → List ℕ

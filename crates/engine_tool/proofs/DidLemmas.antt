@@ -3,10 +3,11 @@ use Rattle.std.proofs.Common.{◌≡◌, ℕ, false, inl, List, Option, Some, No
 use Rattle.std.specs.Prelude.{OnOk, IsErrOf, IsTrue}
 use Rattle.std.specs.Io.KnownBytes.{IsAtEnd}
 use Rattle.stream_core.specs.Files.{Files}
-use Rattle.engine_tool.specs.Commands.{Command, reads_files, reads_input, saves}
+use Rattle.engine_tool.specs.declared.commands.Command.{Command}
+use Rattle.engine_tool.specs.Commands.{reads_files, reads_input, saves}
 use Rattle.engine_tool.specs.NowFiles.{Now}
 use Rattle.engine_tool.specs.Outcomes.{Refusal, Outcomes}
-use Rattle.engine_tool.specs.Replies.{Means, RefusesText, unchanged}
+use Rattle.engine_tool.specs.Replies.{Means, RefusesText, RefusesFiles, unchanged}
 use Rattle.engine_tool.specs.TableFiles.{now_of_table, SameSlot, SameRows}
 use Rattle.engine_tool.specs.Promises.{Inside, Told, FilesAre, ChangesOnly, StoreRose, InputRose}
 use Rattle.engine_tool.specs.Stops.{refusal_of, EndsAs, Answers, Stopped, Did}
@@ -53,6 +54,7 @@ pub record Kept (command : Command) (before after : Inside) (end : Result (List 
   pub whole : IsTrue (reads_input (Some command)) → OnOk end (IsAtEnd after.input)
   pub unread : reads_input (Some command) ≡ false → after.input ≡ before.input
   pub unasked : (text : List ℕ) → before.input ≡ Some text → RefusesText (Some command) text → after.store_faults ≡ before.store_faults
+  pub unheard : (files : Files) → before.files ≡ Some files → RefusesFiles (Some command) files → (after.input ≡ before.input) × (after.input_faults ≡ before.input_faults)
   pub store_cause : IsErrOf end stop.StoreFault → IsTrue (reads_files (Some command)) × StoreRose before after
   pub store_calm : (IsErrOf end stop.StoreFault → ⊥) → after.store_faults ≡ before.store_faults
   pub input_cause : IsErrOf end stop.InputFault → IsTrue (reads_input (Some command)) × InputRose before after
@@ -78,6 +80,7 @@ module _ (command : Command) (before after : Inside) where
     whole = kept.whole;
     unread = kept.unread;
     unasked = kept.unasked;
+    unheard = kept.unheard;
     changes = subst (λ files. ChangesOnly (saves (Some command)) before.files files) (sym kept.files) (ChangesOnly-kept (saves (Some command)) before.files);
     kept = λ table files held is told_before told_after. stopped_kept command table before after files held end (ap (some_or held) (sym told_after ∙ kept.files ∙ told_before));
     store_cause = kept.store_cause;

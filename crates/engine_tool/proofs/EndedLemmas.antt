@@ -5,8 +5,9 @@ use Rattle.std.specs.Io.KnownBytes.{IsAtEnd}
 use Rattle.stream_core.specs.Files.{Files}
 use Rattle.stream_core.specs.Names.{now_file_name}
 use Rattle.engine_tool.specs.TableFiles.{Same, SameBut, SameRows}
-use Rattle.engine_tool.specs.Commands.{Command, reads_files, reads_input, saves}
-use Rattle.engine_tool.specs.Replies.{Answer, Reply, Replies, RefusesText, reply_of, usage_line}
+use Rattle.engine_tool.specs.declared.commands.Command.{Command}
+use Rattle.engine_tool.specs.Commands.{reads_files, reads_input, saves}
+use Rattle.engine_tool.specs.Replies.{Answer, Reply, Replies, RefusesText, RefusesFiles, reply_of, usage_line}
 use Rattle.engine_tool.specs.Promises.{Inside, Told, FilesAre, ChangesOnly, StoreRose, InputRose, Leaves}
 use Rattle.engine_tool.specs.Stops.{refusal_of, status_of, text_of, Answers, Switched, Stopped, Did, DidAny}
 use Rattle.engine_tool.specs.declared.stops.Stop.{Stop}
@@ -30,6 +31,7 @@ pub record Ended (command : Option Command) (before after : Inside) (end : Resul
   pub whole : IsTrue (reads_input command) → OnOk end (IsAtEnd after.input)
   pub unread : reads_input command ≡ false → after.input ≡ before.input
   pub unasked : (text : List ℕ) → before.input ≡ Some text → RefusesText command text → after.store_faults ≡ before.store_faults
+  pub unheard : (files : Files) → before.files ≡ Some files → RefusesFiles command files → (after.input ≡ before.input) × (after.input_faults ≡ before.input_faults)
   pub changes : ChangesOnly (saves command) before.files after.files
   pub keeps : (table : List ℕ) (files held : Files) → saves command ≡ Some table → before.files ≡ Some files → after.files ≡ Some held → status_of end ≢ 0
       → SameRows table held files ⊎ (StoreRose before after × ((text : List ℕ) → Told command before files text → (full : Files) × Leaves command files text full × SameBut (now_file_name table) held full))
@@ -72,6 +74,7 @@ ended_none before after end did =
       whole = λ reads. absurd (false_not_true reads);
       unread = λ e. ap (λ i. i.input) did.1;
       unasked = λ text told refused. absurd refused;
+      unheard = λ files told refused. absurd refused;
       changes = subst (λ files. ChangesOnly None before.files files) (sym kept) (ChangesOnly-kept None before.files);
       keeps = λ table files held names. absurd (none_not_some table names);
       leaves = λ files held told_before told_after e. absurd (omega (arith, ap status_of is, e));
@@ -119,6 +122,7 @@ module _ (command : Command) (before after : Inside) where
     whole = did.whole;
     unread = did.unread;
     unasked = did.unasked;
+    unheard = did.unheard;
     changes = did.changes;
     keeps = λ table files held names told_before told_after. keeps_of_end table files held end (did.kept table files held names told_before told_after);
     leaves = λ files held told_before told_after e text told. leaves_of_end files held text end (did.answers files text told) told_before told_after e;

@@ -5,8 +5,8 @@ use Rattle.definitions_columns.proofs.FaultLaws.{HasFileFault-one, HasFileFault-
 use Rattle.definitions_columns.proofs.FileLaws as laws
 use Rattle.stream_core.specs.Files.{Files}
 use Rattle.stream_core.specs.Names.{column_file_name}
-use Rattle.engine_tool.specs.Commands as commands
-use Rattle.engine_tool.specs.Commands.{Command}
+use Rattle.engine_tool.specs.declared.commands.Command.TheVariants as command
+use Rattle.engine_tool.specs.declared.commands.Command.{Command}
 use Rattle.engine_tool.specs.NowFiles.{Now}
 use Rattle.engine_tool.specs.Outcomes.{Refusal, Outcomes, Gives, OneOr, OneOrFault, Then}
 use Rattle.engine_tool.specs.Queries.{Condition, Query, Spells, max_query}
@@ -90,7 +90,7 @@ AnswerOf-one files query =
     Then-one (LoadedOf files query) (λ loaded. Gives (answer_over (kept_in query.condition loaded))) (LoadedOf-one files query) (λ loaded. Gives-one (answer_over (kept_in query.condition loaded)))
 
 Means-one : (command : Command) (files : Files) (text : List ℕ) → IsOne (Means command files text)
-Means-one commands.query files text end other p q =
+Means-one command.Query files text end other p q =
     p.2 ∙ ap (unchanged files) (Then-one (QueryOf text) (AnswerOf files) (QueryOf-one text) (AnswerOf-one files) p.0 q.0 p.1 q.1) ∙ sym q.2
 
 pub one_reply : OneReply

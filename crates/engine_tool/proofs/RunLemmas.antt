@@ -1,15 +1,20 @@
 -- The top call's promises, from what a command did and what was written of its end.
-use Rattle.std.proofs.Common.{◌≡◌, ◌≢◌, ℕ, ◌⊎◌, inl, inr, List, Option, Some, Result, zero, suc, refl, sym, ap, subst, arith}
+use Rattle.std.proofs.Common.{◌≡◌, ◌≢◌, ℕ, ◌⊎◌, inl, inr, List, Option, Some, Result, Err, zero, suc, refl, sym, ap, subst, arith}
 use Rattle.std.specs.Prelude.{codes}
 use Rattle.std.specs.Io.KnownBytes.{IsAtEnd}
 use Rattle.stream_core.specs.Files.{Files}
-use Rattle.engine_tool.specs.Commands.{Command, saves}
+use Rattle.engine_tool.specs.declared.commands.Command.{Command}
+use Rattle.engine_tool.specs.Commands.{saves}
 use Rattle.engine_tool.specs.Replies.{Reply, Replies}
-use Rattle.engine_tool.specs.Promises.{Outside, Told, FilesAre, SomeRose, NoneFailed, IsCutOff, Took, Says, IsFault, store, input, reply, memory, AfterRefusal, same, switch, line, Promises}
+use Rattle.engine_tool.specs.Promises.{Outside, Told, FilesAre, SomeRose, NoneFailed, NoneInside, IsCutOff, Took, Says, IsFault, store, input, reply, memory, AfterRefusal, same, switch, line, Promises}
 use Rattle.engine_tool.specs.Stops.{status_of, text_of, IsWritten, whole, cut, DidAny}
 use Rattle.engine_tool.specs.declared.stops.Stop.{Stop}
+use Rattle.engine_tool.specs.declared.stops.Stop.TheVariants as stop
 use Rattle.engine_tool.proofs.EndLemmas.{at_two, at_three, at_six, at_zero, fault, want, other, sort_of}
 use Rattle.engine_tool.proofs.EndedLemmas.{Ended, ended}
+
+store_not_input : (e : Result (List ℕ) Stop) → e ≡ Err stop.StoreFault → e ≡ Err stop.InputFault → ⊥
+store_not_input e p q = cc
 
 is_zero : (n : ℕ) → (n ≡ 0) ⊎ (n ≢ 0)
 is_zero zero = inl refl
@@ -19,8 +24,8 @@ module _ (command : Option Command) (before after : Outside) (end : Result (List
   -- a fault of the store or the input, whose line was said
   fault_said : status_of end ≡ 3 → ((text : List ℕ) → text_of end ≡ text → Says before after text) → IsFault command before after
   fault_said e says = elim (at_three end e) [
-    | inl is ↦ store (it.store_cause is).0 (it.store_cause is).1 (says (codes "fault: store\n") (ap text_of is))
-    | inr is ↦ input (it.input_cause is).0 (it.input_cause is).1 (says (codes "fault: input\n") (ap text_of is))
+    | inl is ↦ store (it.store_cause is).0 (it.store_cause is).1 (it.input_calm (store_not_input end is)) (says (codes "fault: store\n") (ap text_of is))
+    | inr is ↦ input (it.input_cause is).0 (it.input_cause is).1 (it.store_calm (λ e. store_not_input end e is)) (says (codes "fault: input\n") (ap text_of is))
   ]
 
   kept_said : (table : List ℕ) (files held : Files) → saves command ≡ Some table → before.inside.files ≡ Some files → after.inside.files ≡ Some held → status_of end ≢ 0
@@ -58,6 +63,7 @@ module _ (command : Option Command) (before after : Outside) (end : Result (List
       whole = λ reads e. at_zero end (IsAtEnd after.inside.input) e (it.whole reads);
       unread = it.unread;
       unasked = it.unasked;
+      unheard = it.unheard;
       changes = it.changes;
       kept = kept_said;
       fault = λ e. fault_said e (λ text is. inl (subst (Took before after) is took));
@@ -72,12 +78,15 @@ module _ (command : Option Command) (before after : Outside) (end : Result (List
 
   -- the promises of an end that was cut off
   module _ (cut_off : IsCutOff before after (text_of end)) where
+    none_inside : status_of end ≢ 3 → NoneInside before.inside after.inside
+    none_inside not_fault = record { store = it.store_calm (λ e. not_fault (ap status_of e)); input = it.input_calm (λ e. not_fault (ap status_of e)) }
+
     cut_fault : IsFault command before after
     cut_fault = elim (sort_of end) [
       | fault e ↦ fault_said e (λ text is. inr (subst (IsCutOff before after) is cut_off))
-      | want e ↦ memory (subst (IsCutOff before after) (ap text_of (at_six end e)) cut_off)
+      | want e ↦ memory (none_inside (λ three. omega (arith, e, three))) (subst (IsCutOff before after) (ap text_of (at_six end e)) cut_off)
       | other not_fault not_memory ↦
-          reply (text_of end) cut_off (λ files text told. let r = it.replies files text told not_fault not_memory in (r.reply, r.meant, r.said))
+          reply (text_of end) (none_inside not_fault) cut_off (λ files text told. let r = it.replies files text told not_fault not_memory in (r.reply, r.meant, r.said))
     ]
 
     kept_cut : (table : List ℕ) (files held : Files) → saves command ≡ Some table → before.inside.files ≡ Some files → after.inside.files ≡ Some held → AfterRefusal command table before after files held
@@ -95,6 +104,7 @@ module _ (command : Option Command) (before after : Outside) (end : Result (List
       whole = λ reads e. absurd (omega (arith, e));
       unread = it.unread;
       unasked = it.unasked;
+      unheard = it.unheard;
       changes = it.changes;
       kept = λ table files held names told_before told_after not_done. kept_cut table files held names told_before told_after;
       fault = λ e. cut_fault;

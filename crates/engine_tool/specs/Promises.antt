@@ -5,18 +5,19 @@ use Rattle.stream_core.specs.Faults.{Rose}
 use Rattle.stream_core.specs.Files.{Files}
 use Rattle.stream_core.specs.Names.{now_file_name}
 use Rattle.engine_tool.specs.TableFiles.{Same, SameBut, SameRows, WritesTable}
-use Rattle.engine_tool.specs.Commands.{Command, reads_files, reads_input, saves}
-use Rattle.engine_tool.specs.Replies.{Reply, Replies, Answer, Means, RefusesText, usage_line}
+use Rattle.engine_tool.specs.declared.commands.Command.{Command}
+use Rattle.engine_tool.specs.Commands.{reads_files, reads_input, saves}
+use Rattle.engine_tool.specs.Replies.{Reply, Replies, Answer, Means, RefusesText, RefusesFiles, usage_line}
 
--- What contracts see of what a command reads: the store's files and the bytes that the input has left, each where it is
--- told, and how many calls of each have failed.
+-- What contracts see of a store and an input: the files and the bytes that are left, if they are told, and how many calls of
+-- each have failed.
 pub record Inside : Type 0 where
   pub files : Option Files
   pub input : Option (List ℕ)
   pub store_faults : ℕ
   pub input_faults : ℕ
 
--- the same, and what the output took
+-- the same, and what contracts see of an output: the bytes that it took, if they are told, and how many calls have failed
 pub record Outside : Type 0 where
   pub inside : Inside
   pub output : Option (List ℕ)
@@ -27,7 +28,7 @@ pub record Told (command : Option Command) (before : Inside) (files : Files) (te
   pub folder : IsTrue (reads_files command) → before.files ≡ Some files
   pub given : IsTrue (reads_input command) → before.input ≡ Some text
 
--- told files are these
+-- the store tells its files, and they are these
 abbrev pub FilesAre : Option Files → Files → Type 0
 FilesAre None files = ⊥
 FilesAre (Some held) files = Same held files
@@ -61,28 +62,35 @@ pub record NoneFailed (before after : Outside) : Type 0 where
   pub input : after.inside.input_faults ≡ before.inside.input_faults
   pub output : after.output_faults ≡ before.output_faults
 
--- the output took the text; it took a proper prefix of it, since a write failed; it took either
+-- no call of the store or the input failed
+pub record NoneInside (before after : Inside) : Type 0 where
+  pub store : after.store_faults ≡ before.store_faults
+  pub input : after.input_faults ≡ before.input_faults
+
+-- the output took the text
 abbrev pub Took : Outside → Outside → List ℕ → Type 0
 Took before after text = Appends before.output after.output text
 
+-- the output took a proper prefix of the text, since a write failed
 pub record IsCutOff (before after : Outside) (text : List ℕ) : Type 0 where
   pub fault : OutputRose before after
   pub count : ℕ
   pub short : count < length text
   pub taken : Took before after (take count text)
 
+-- the output took the text, or a proper prefix of it
 abbrev pub Says : Outside → Outside → List ℕ → Type 0
 Says before after line = Took before after line ⊎ IsCutOff before after line
 
--- What stands behind status 3: a call of the store or the input failed, and its line was written or cut off; or a write
--- failed, and the reply or the line `memory` was cut off.
+-- What stands behind status 3. A call of the store failed and none of the input, or the other way round, and the line that
+-- says so was written or cut off. Or only a write failed, and the reply or the line `memory` was cut off.
 pub data IsFault (command : Option Command) (before after : Outside) : Type 0 where
-  store : IsTrue (reads_files command) → StoreRose before.inside after.inside → Says before after (codes "fault: store\n") → IsFault command before after
-  input : IsTrue (reads_input command) → InputRose before.inside after.inside → Says before after (codes "fault: input\n") → IsFault command before after
-  reply : (written : List ℕ) → IsCutOff before after written
+  store : IsTrue (reads_files command) → StoreRose before.inside after.inside → after.inside.input_faults ≡ before.inside.input_faults → Says before after (codes "fault: store\n") → IsFault command before after
+  input : IsTrue (reads_input command) → InputRose before.inside after.inside → after.inside.store_faults ≡ before.inside.store_faults → Says before after (codes "fault: input\n") → IsFault command before after
+  reply : (written : List ℕ) → NoneInside before.inside after.inside → IsCutOff before after written
       → ((files : Files) (text : List ℕ) → Told command before.inside files text → (reply : Reply) × Replies command files text reply × (written ≡ reply.text))
       → IsFault command before after
-  memory : IsCutOff before after (codes "memory\n") → IsFault command before after
+  memory : NoneInside before.inside after.inside → IsCutOff before after (codes "memory\n") → IsFault command before after
 
 -- the line for words that denote no command was cut off, or the line that says want of memory
 abbrev pub IsCutUsage : Outside → Outside → Type 0
@@ -110,25 +118,28 @@ pub record Promises (command : Option Command) (before after : Outside) (status 
   pub reply : (files : Files) (text : List ℕ) → Told command before.inside files text → status ≢ 3 → status ≢ 6 →
       (reply : Reply) × Replies command files text reply × (status ≡ reply.status) × Took before after reply.text
       × (before.inside.files ≡ Some files → FilesAre after.inside.files reply.files)
-  -- Words that denote no command are said to be so, unless a write failed or memory ran out. No others are said to be so, and no
-  -- call of the store or the input is made for them.
+  -- For words that denote no command the usage line is written, unless a write fails or memory runs out. No other words end with
+  -- status 2. The store and the input stay as they were.
   pub usage : command ≡ None → ((status ≡ 2) × Took before after usage_line) ⊎ ((status ≡ 3) × IsCutUsage before after) ⊎ (status ≡ 6)
   pub only_usage : status ≡ 2 → command ≡ None
   pub quiet : command ≡ None → after.inside ≡ before.inside
-  -- An input that the command reads is read to its end where the command is done. Any other input is left as it is.
+  -- An input that the command reads is read to its end if the status is 0. Any other input is left as it is.
   pub whole : IsTrue (reads_input command) → status ≡ 0 → IsAtEnd after.inside.input
   pub unread : reads_input command ≡ false → after.inside.input ≡ before.inside.input
-  -- No file is loaded for a text that is refused by itself.
+  -- No load fails for a text that is refused whatever the files hold, so none is made. The input is left for files that are
+  -- refused whatever it holds.
   pub unasked : (text : List ℕ) → before.inside.input ≡ Some text → RefusesText command text → after.inside.store_faults ≡ before.inside.store_faults
-  -- Only files of the saved table change, and its rows change only where the command is done.
+  pub unheard : (files : Files) → before.inside.files ≡ Some files → RefusesFiles command files →
+      (after.inside.input ≡ before.inside.input) × (after.inside.input_faults ≡ before.inside.input_faults)
+  -- Only files of the saved table change, and its rows change only if the status is 0, with two exceptions.
   pub changes : ChangesOnly (saves command) before.inside.files after.inside.files
   pub kept : (table : List ℕ) (files held : Files) → saves command ≡ Some table → before.inside.files ≡ Some files → after.inside.files ≡ Some held →
       status ≢ 0 → AfterRefusal command table before after files held
-  -- Status 3 comes where a call failed, and only there.
+  -- Status 3 comes if and only if a call failed.
   pub fault : status ≡ 3 → IsFault command before after
   pub calm : status ≢ 3 → NoneFailed before after
   -- Want of memory is said, and nothing else.
   pub memory : status ≡ 6 → Took before after (codes "memory\n")
-  -- Where no call failed, the status is the reply's, unless memory ran out.
+  -- If no call failed, the status is the reply's, unless memory ran out.
   pub complete : (SomeRose before after → ⊥) → (files : Files) (text : List ℕ) → Told command before.inside files text →
       (status ≡ 6) ⊎ ((reply : Reply) × Replies command files text reply × (status ≡ reply.status))

@@ -7,8 +7,8 @@ use Rattle.definitions_operators.specs.Sums.{kept_values, sum_over}
 use Rattle.stream_core.specs.Files.{Files}
 use Rattle.stream_core.specs.Names.{now_file_name, column_file_name}
 use Rattle.engine_tool.specs.Answers.{answer_text}
-use Rattle.engine_tool.specs.Commands as commands
-use Rattle.engine_tool.specs.Commands.{Command}
+use Rattle.engine_tool.specs.declared.commands.Command.{Command}
+use Rattle.engine_tool.specs.declared.commands.Command.TheVariants as command
 use Rattle.engine_tool.specs.NowFiles.{Now, now_in}
 use Rattle.engine_tool.specs.Outcomes as outcomes
 use Rattle.engine_tool.specs.Outcomes.{Refusal, Outcomes, Gives, OneOr, OneOrFault, Then, bind, status_of_kind}
@@ -123,7 +123,7 @@ unchanged files (Err refusal) = Err refusal
 
 -- what a command answers
 abbrev pub Means : Command → Files → List ℕ → Outcomes Answer
-Means commands.query files text end = (given : Result (List ℕ) Refusal) × QueryReply files text given × (end ≡ unchanged files given)
+Means command.Query files text end = (given : Result (List ℕ) Refusal) × QueryReply files text given × (end ≡ unchanged files given)
 
 -- what any words answer: the exit status, what is written, and the files afterwards
 pub record Reply : Type 0 where
@@ -142,10 +142,15 @@ abbrev pub Replies : Option Command → Files → List ℕ → Reply → Type 0
 Replies None files text reply = reply ≡ record { status = 2; text = usage_line; files = files }
 Replies (Some command) files text reply = (end : Result Answer Refusal) × Means command files text end × (reply ≡ reply_of files end)
 
--- the text is refused before a file is loaded
+-- the command refuses the text whatever the files hold, before it loads one
 abbrev pub RefusesText : Option Command → List ℕ → Type 0
 RefusesText None text = ⊥
-RefusesText (Some commands.query) text = (asked : Query) → QueryOf text (Ok asked) → ⊥
+RefusesText (Some command.Query) text = (asked : Query) → QueryOf text (Ok asked) → ⊥
+
+-- the command refuses the files whatever the input holds, before it reads it
+abbrev pub RefusesFiles : Option Command → Files → Type 0
+RefusesFiles None files = ⊥
+RefusesFiles (Some command.Query) files = ⊥
 
 -- a command has one reply at most
 abbrev pub OneReply : Type 0

@@ -4,11 +4,11 @@ use Rattle.std.specs.Io.KnownBytes.{IsAtEnd}
 use Rattle.stream_core.specs.Faults.{Rose}
 use Rattle.stream_core.specs.Files.{Files}
 use Rattle.stream_core.specs.Names.{now_file_name}
-use Rattle.engine_tool.specs.Commands as commands
+use Rattle.engine_tool.specs.declared.commands.Command.{Command}
 use Rattle.engine_tool.specs.Commands.{reads_files, reads_input, saves}
 use Rattle.engine_tool.specs.Outcomes as outcomes
 use Rattle.engine_tool.specs.Outcomes.{Outcomes, status_of_kind}
-use Rattle.engine_tool.specs.Replies.{Means, RefusesText, usage_line, bad_query, bad_file, sum_too_wide}
+use Rattle.engine_tool.specs.Replies.{Means, RefusesText, RefusesFiles, usage_line, bad_query, bad_file, sum_too_wide}
 use Rattle.engine_tool.specs.TableFiles.{SameRows, SameBut}
 use Rattle.engine_tool.specs.Promises.{Inside, Outside, Told, FilesAre, ChangesOnly, StoreRose, InputRose, Took, IsCutOff, Leaves}
 use Rattle.engine_tool.specs.declared.stops.What.{What}
@@ -114,7 +114,7 @@ pub record TakesNoMemory {X : Type 0} (result : Result X Stop) : Type 0 where
   pub memory : IsErrOf result stop.Memory → ⊥
 
 -- what a command's end says of its answer
-abbrev pub Answers : commands.Command → Inside → Inside → Files → List ℕ → Result (List ℕ) Stop → Type 0
+abbrev pub Answers : Command → Inside → Inside → Files → List ℕ → Result (List ℕ) Stop → Type 0
 Answers command before after files text (Ok given) =
     (held : Files) × Means command files text (Ok (record { text = given; files = held })) × (before.files ≡ Some files → FilesAre after.files held)
 Answers command before after files text (Err stop.Usage) = ⊥
@@ -125,20 +125,21 @@ Answers command before after files text (Err stop.InputFault) = Unit {0}
 Answers command before after files text (Err stop.Memory) = Unit {0}
 
 -- what became of a saved table where the command stopped
-abbrev pub Switched : commands.Command → List ℕ → Inside → Inside → Files → Files → Type 0
+abbrev pub Switched : Command → List ℕ → Inside → Inside → Files → Files → Type 0
 Switched command table before after files held =
     StoreRose before after × ((text : List ℕ) → Told (Some command) before files text → (full : Files) × Leaves (Some command) files text full × SameBut (now_file_name table) held full)
 
-abbrev pub Stopped : commands.Command → List ℕ → Inside → Inside → Files → Files → Result (List ℕ) Stop → Type 0
+abbrev pub Stopped : Command → List ℕ → Inside → Inside → Files → Files → Result (List ℕ) Stop → Type 0
 Stopped command table before after files held (Ok given) = Unit {0}
 Stopped command table before after files held (Err given) = SameRows table held files ⊎ Switched command table before after files held
 
 -- What a command did before anything is written. It is what the top call's promises are made of.
-pub record Did (command : commands.Command) (before after : Inside) (end : Result (List ℕ) Stop) : Type 0 where
+pub record Did (command : Command) (before after : Inside) (end : Result (List ℕ) Stop) : Type 0 where
   pub answers : (files : Files) (text : List ℕ) → Told (Some command) before files text → Answers command before after files text end
   pub whole : IsTrue (reads_input (Some command)) → OnOk end (IsAtEnd after.input)
   pub unread : reads_input (Some command) ≡ false → after.input ≡ before.input
   pub unasked : (text : List ℕ) → before.input ≡ Some text → RefusesText (Some command) text → after.store_faults ≡ before.store_faults
+  pub unheard : (files : Files) → before.files ≡ Some files → RefusesFiles (Some command) files → (after.input ≡ before.input) × (after.input_faults ≡ before.input_faults)
   pub changes : ChangesOnly (saves (Some command)) before.files after.files
   pub kept : (table : List ℕ) (files held : Files) → saves (Some command) ≡ Some table → before.files ≡ Some files → after.files ≡ Some held →
       Stopped command table before after files held end
@@ -149,7 +150,7 @@ pub record Did (command : commands.Command) (before after : Inside) (end : Resul
   pub usage : IsErrOf end stop.Usage → ⊥
 
 -- the same for any words: none is a command's, and nothing was done
-abbrev pub DidAny : Option commands.Command → Inside → Inside → Result (List ℕ) Stop → Type 0
+abbrev pub DidAny : Option Command → Inside → Inside → Result (List ℕ) Stop → Type 0
 DidAny None before after end = (end ≡ Err stop.Usage) × (after ≡ before)
 DidAny (Some command) before after end = Did command before after end
 

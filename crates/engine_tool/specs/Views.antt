@@ -1,20 +1,14 @@
 -- What values of the code stand for.
 use Rattle.std.specs.Prelude.{◌≡◌, ℕ, List, length, Option, Some, None, IfSome}
 use Rattle.column_core.specs.Columns.{Shape}
-use Rattle.engine_tool.specs.Commands as commands
 use Rattle.engine_tool.specs.NowFiles as now_files
 use Rattle.engine_tool.specs.Replies as replies
-use Rattle.engine_tool.specs.declared.commands.Command.{Command}
-use Rattle.engine_tool.specs.declared.commands.Command.TheVariants as command
 use Rattle.engine_tool.specs.declared.now_file.Slot.{Slot}
 use Rattle.engine_tool.specs.declared.now_file.Slot.TheVariants as slot
 use Rattle.engine_tool.specs.declared.now_file.Now.{Now}
 use Rattle.engine_tool.specs.declared.loading.Tested.{Tested}
 use Rattle.engine_tool.specs.declared.loading.Tested.TheVariants as tested
 use Rattle.engine_tool.specs.declared.loading.Loaded.{Loaded}
-
-abbrev pub command_view : Command → commands.Command
-command_view command.Query = commands.query
 
 -- the letter of a slot
 abbrev pub letter_of : Slot → ℕ

@@ -1,8 +1,7 @@
 //! The commands.
 
-ghost use Rattle.std.specs.Prelude.{◌≡◌, [], ◌∷◌, map, option_map, string_bytes};
+ghost use Rattle.std.specs.Prelude.{◌≡◌, [], ◌∷◌, map, string_bytes};
 ghost use Rattle.engine_tool.specs.Commands.{command_in};
-ghost use Rattle.engine_tool.specs.Views.{command_view};
 
 /// A command with its options.
 #[derive(Clone, Copy, Debug, PartialEq, Eq)]
@@ -10,9 +9,9 @@ pub enum Command {
     Query,
 }
 
-/// The command that the words denote.
+/// The command that the words denote, if any.
 pub fn command_of(words: &[String]) -> Option<Command>
-    ensures { option_map command_view result ≡ command_in (map string_bytes words.now) }
+    ensures { result ≡ command_in (map string_bytes words.now) }
 {
     match words {
         [word] => lone_command(word.as_str()),
@@ -22,7 +21,7 @@ pub fn command_of(words: &[String]) -> Option<Command>
 
 /// The command of one word.
 fn lone_command(word: &str) -> Option<Command>
-    ensures { option_map command_view result ≡ command_in (word.now ∷ []) }
+    ensures { result ≡ command_in (word.now ∷ []) }
 {
     if word == "query" {
         return Some(Command::Query);

@@ -2,7 +2,6 @@
 
 ghost use Rattle.std.specs.Prelude.{◌≡◌, ℕ, List as Items, Some, map, string_bytes};
 ghost use Rattle.stream_core.specs.Files.{Files};
-ghost use Rattle.engine_tool.specs.Commands as commands;
 ghost use Rattle.engine_tool.specs.Commands.{command_in};
 ghost use Rattle.engine_tool.specs.Outcomes.{OneOr};
 ghost use Rattle.engine_tool.specs.Queries.{Spells, max_query};
@@ -65,7 +64,7 @@ fn answer<S: Store>(alloc: Global, store: &mut S, query: &SumQuery) -> Result<By
 
 /// The answer to `query`.
 fn query<S: Store, I: Source>(alloc: Global, store: &mut S, input: &mut I) -> Result<Bytes, Stop>
-    ensures { Did commands.query (inside (S.files store.old) (S.faults store.old) (I.left input.old) (I.faults input.old))
+    ensures { Did Command.Query (inside (S.files store.old) (S.faults store.old) (I.left input.old) (I.faults input.old))
         (inside (S.files store.new) (S.faults store.new) (I.left input.new) (I.faults input.new)) result }
 {
     let query = query_of(alloc, input)?;

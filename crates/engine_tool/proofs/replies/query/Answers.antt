@@ -1,6 +1,6 @@
 use Rattle.std.proofs.Common.{List, ℕ, Err, refl}
 use Rattle.std.proofs.lemmas.Result.{err_from_is_err_and}
-use Rattle.engine_tool.specs.Commands as commands
+use Rattle.engine_tool.specs.declared.commands.Command.TheVariants as command
 use Rattle.engine_tool.specs.Promises.{Inside}
 use Rattle.engine_tool.specs.Replies.{QueryOf, AnswerOf, QueryReply}
 use Rattle.engine_tool.specs.Stops.{inside}
@@ -18,13 +18,14 @@ returns-in_err-query g c =
     let given = c.in_err-query.field-0.0 in
     let kept = c.in_err-query.ensures.kept in
     rw (p.1, p.2)
-    (did_read commands.query before after QueryReply (λ files text e answered. (e, answered, refl)) (Err given)
+    (did_read command.Query before after QueryReply (λ files text e answered. (e, answered, refl)) (Err given)
     (λ files text told. Ends-stopped (λ (b : List ℕ). b) (QueryOf text) (AnswerOf files) query_view given (c.in_err-query.ensures.step text (told.given refl)))
     (record {
       files = refl;
       whole = λ reads. tt;
       unread = λ e. cc;
       unasked = λ text told refused. refl;
+      unheard = λ files told refused. absurd refused;
       store_cause = λ e. absurd (kept.store (IsErrOf-other given _ e));
       store_calm = λ other. refl;
       input_cause = λ e. (refl, kept.cause (IsErrOf-other given _ e));
@@ -39,13 +40,14 @@ returns g c =
     let asked = query_view c.in_ok-query.query in
     let read = c.in_ok-query.ensures in
     let kept = c.answer.ensures.kept in
-    did_read commands.query before after QueryReply (λ files text e answered. (e, answered, refl)) c.answer.result
+    did_read command.Query before after QueryReply (λ files text e answered. (e, answered, refl)) c.answer.result
     (λ files text told. Ends-went (λ (b : List ℕ). b) (QueryOf text) (AnswerOf files) asked c.answer.result (read.step text (told.given refl)) (c.answer.ensures.step files (told.folder refl)))
     (record {
       files = kept.files;
       whole = λ reads. OnOk-always c.answer.result read.kept.whole;
       unread = λ e. cc;
       unasked = λ text told refused. absurd (refused asked (read.step text told));
+      unheard = λ files told refused. absurd refused;
       store_cause = λ e. (refl, kept.cause e);
       store_calm = kept.calm;
       input_cause = λ e. absurd (kept.input e);
