@@ -10,7 +10,7 @@ length-squares (suc n) = omega (arith, length-append (squares n) (n * n ∷ []),
 
 -- as many more numbers, and what stands behind the squares of the first
 behind : (more n : ℕ) → (rest : List ℕ) × (squares (more + n) ≡ squares n ++ rest)
-behind zero n = ([], sym (append-nil (squares n)))
+behind zero n = let none : zero + n ≡ n = omega arith in ([], ap squares none ∙ sym (append-nil (squares n)))
 behind (suc more) n =
     let first = behind more n in
     let next = (more + n) * (more + n) ∷ [] in
