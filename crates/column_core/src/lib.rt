@@ -20,4 +20,4 @@ pub use columns::Column;
 pub use cursors::Cursor;
 pub use gathers::Gather;
 pub use heads::{HEAD_LEN, Head, head_bytes, read_head};
-pub use laws::{has_file, one_column, one_file};
+pub use laws::{file_size, has_block, has_file, one_block, one_column, one_encoding, one_file};

@@ -5,7 +5,7 @@ use Rattle.definitions_blocks.specs.Blocks.{block_values}
 use Rattle.definitions_blocks.specs.Formats.{Format, tag_of, IsColumnWidth, LacksBlock}
 use Rattle.definitions_columns.specs.ColumnFiles.{column_head, static_width_of, Piece, ArePieces, piece_values, piece_bytes}
 
--- a head that some column's file could have: the format, the width and the count
+-- a lawful head: a width that the format can have, and not too many values
 pub record IsHead (format : Format) (width count : ℕ) : Type 0 where
   pub lawful : IsColumnWidth format width
   pub few : count ≤ max_rows

@@ -1,2 +1,2 @@
-//! What a column file is in each format, and its first fault where bytes are none, with their laws. There is no code.
+//! What a column file is in each format, and the first fault of bytes that are none, with laws. There is no code.
 #![tactic(auto)]
