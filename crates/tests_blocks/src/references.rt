@@ -48,11 +48,7 @@ fn gives<P: Packing>(param: P::Param, bytes: &[u8], values: &[u64]) -> bool {
 }
 
 // Random values of 13 bits, encoded in the format, are given back.
-fn expect_given(
-    rt: &impl Abort,
-    alloc: Global,
-    format: Format,
-) -> Result<(), Fail> {
+fn expect_given(rt: &impl Abort, alloc: Global, format: Format) -> Result<(), Fail> {
     let block = Shape::Scattered { bits: 13 }.block();
     let width = column_width(format, &block);
     let bytes = encoded::<8>(alloc, format, width, &block)?;

@@ -25,7 +25,10 @@ fn each_format_takes_the_bytes_that_were_worked_out(rt: HostRuntime) -> Result<(
     for (shape, sizes) in [
         (Shape::Constant(0), [8192, 0, 1, 12, 9, 9, 9, 20]),
         (Shape::Constant(1), [8192, 128, 129, 12, 9, 9, 9, 20]),
-        (Shape::FALLING, [8192, 1280, 1281, 10242, 8201, 8201, 1289, 30]),
+        (
+            Shape::FALLING,
+            [8192, 1280, 1281, 10242, 8201, 8201, 1289, 30],
+        ),
     ] {
         let block = shape.block();
         for (format, size) in Format::ALL.iter().zip(sizes.iter()) {

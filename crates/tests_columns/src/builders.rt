@@ -57,11 +57,7 @@ fn expect_built_in_every_format(
 
 #[test]
 fn values_pushed_one_by_one_give_the_file_of_the_list(rt: HostRuntime) -> Result<(), Fail> {
-    for shape in [
-        Shape::CYCLING,
-        Shape::FALLING_FROM_MOST,
-        RISEN,
-    ] {
+    for shape in [Shape::CYCLING, Shape::FALLING_FROM_MOST, RISEN] {
         for count in [0, 1, 1023, 1024, 1025, 2049u16] {
             expect_built_in_every_format(&rt, rt.alloc(), shape, count)?;
         }

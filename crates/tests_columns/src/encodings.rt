@@ -107,11 +107,7 @@ fn expect_len(
     len: usize,
 ) -> Result<(), AllocError> {
     let column = column_of(alloc, shape, count, format)?;
-    assert_eq!(rt;
-        column.encoded().len(),
-        len,
-        "{shape:?} in {format:?}"
-    );
+    assert_eq!(rt; column.encoded().len(), len, "{shape:?} in {format:?}");
     Ok(())
 }
 
@@ -119,11 +115,7 @@ fn expect_len(
 fn each_format_takes_the_bytes_that_were_worked_out(rt: HostRuntime) -> Result<(), Fail> {
     for (shape, count, sizes) in [
         (Shape::Constant(0), 1024, [8208, 16, 17, 28, 25, 25, 25, 36]),
-        (
-            RISEN,
-            1025,
-            [8216, 152, 153, 36, 33, 33, 33, 44],
-        ),
+        (RISEN, 1025, [8216, 152, 153, 36, 33, 33, 33, 44]),
         (
             Shape::FALLING,
             1024,

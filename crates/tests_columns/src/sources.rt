@@ -183,7 +183,12 @@ fn values_stay_the_same_when_their_block_is_opened(rt: HostRuntime) -> Result<()
         ] {
             let places = order.places(rt.alloc(), steps, 2050)?;
             let mut gather = Gather::<8>::new(&column);
-            let same = finds(rt.alloc(), &mut gather, values.as_slice(), places.as_slice())?;
+            let same = finds(
+                rt.alloc(),
+                &mut gather,
+                values.as_slice(),
+                places.as_slice(),
+            )?;
             assert!(rt; same, "{format:?}, {order:?}");
         }
     }
@@ -196,7 +201,10 @@ fn the_longest_column_of_zeros_is_sixteen_bytes(rt: HostRuntime) -> Result<(), F
     let head = (column.format(), column.count(), column.static_width());
     assert!(rt; head == (Format::Static, 268_435_456, 0), "the head");
     let lengths = (column.encoded().len(), column.block_bytes(262_143).len());
-    assert!(rt; lengths == (16, 0), "the lengths of the file and of the last block");
+    assert!(rt;
+        lengths == (16, 0),
+        "the lengths of the file and of the last block"
+    );
     let places = [0, 1023, 1024, 134_217_728, 268_435_455, 0];
     let found = looked_up(rt.alloc(), &mut Gather::<8>::new(&column), &places)?;
     assert!(rt; found.as_slice() == [0; 6].as_slice(), "the values");

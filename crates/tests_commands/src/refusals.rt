@@ -1,6 +1,8 @@
 //! Texts, words and files out of form.
 
-use crate::worlds::{TEXT, answers, column_bytes, command, example_with, example_without, expect, source};
+use crate::worlds::{
+    TEXT, answers, column_bytes, command, example_with, example_without, expect, source,
+};
 use block_core::Format;
 use std::alloc::{AllocError, Global};
 use std::process::Abort;

@@ -6,8 +6,7 @@ use Rattle.tests_columns.proofs.generic.push_squares.Goals as goal
 
 pub push-requires : goal.push-requires
 push-requires g c =
-    let n = c.loop-number.number in
-    (
+    let n = c.loop-number.number in (
       squares n,
       c.loop-number.invariant.taken,
       omega (arith, length-squares n, c.requires.few, c.loop-number-test.true),
