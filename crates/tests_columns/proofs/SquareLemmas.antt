@@ -1,5 +1,5 @@
 -- The squares of the first numbers stand in front of those of more.
-use Rattle.std.proofs.Common.{◌≡◌, ℕ, ◌+◌, ◌-◌, ◌*◌, ◌<◌, ◌≤◌, zero, suc, Bool, true, List, [], ◌∷◌, ◌++◌, length, take, refl, sym, ap, ◌∙◌, subst, append_assoc, arith, length-append}
+use Rattle.std.proofs.Common.{◌≡◌, ℕ, ◌+◌, ◌-◌, ◌*◌, ◌<◌, ◌≤◌, zero, suc, Bool, true, List, [], ◌∷◌, ◌++◌, length, take, Result, Ok, Err, OnErr, refl, sym, ap, ◌∙◌, subst, append_assoc, arith, length-append}
 use Rattle.std.proofs.lemmas.List.{append-nil, take_at}
 use Rattle.block_core.specs.Emitters.{HoldsOfPrefixes}
 use Rattle.tests_columns.specs.Squares.{squares}
@@ -35,3 +35,7 @@ holds_of_first {S} test law now before same n below few holds =
     let found = front n below few in
     let first : test before (squares n) ≡ true = law before (squares n) found.0 (ap (test before) (sym found.1) ∙ holds) in
     ap (λ state. test state (squares n)) same ∙ first
+
+pub on_err : {T E P : Type 0} → (r : Result T E) → P → OnErr r P
+on_err (Ok value) p = tt
+on_err (Err refused) p = p
