@@ -43,6 +43,8 @@ bench: $(MORPHQ) $(COLUMN_TOOL)
 	bench/codec $(PROCESSOR)
 	bench/formats $(PROCESSOR)
 	bench/columns $(PROCESSOR)
+	bench/sizes $(PROCESSOR)
+	bench/auto $(PROCESSOR)
 	bench/read_column
 	bench/first_query
 

@@ -1,7 +1,9 @@
-// Columns in C++: the same files, with blocks as words, packed, as differences that are packed, and as runs.
+// Columns in C++: the same files of version 2, with blocks as words, packed, as differences that are packed, and as runs, with a
+// directory where the blocks differ in length, and with a packed tail.
 //
-// Usage: columns TASK FORMAT COUNT ROUNDS [pick|block]. The task is cursor, build, list, rising or random; the last word says
-// how values are looked up, by picking each from the bytes or by decoding its block. It prints a checksum.
+// Usage: columns TASK FORMAT COUNT ROUNDS [pick|block|FORMAT]. The task is cursor, build, list, rising, random or morph. The last
+// word says how values are looked up, by picking each from the bytes or by decoding its block, or is a morph's new format. It
+// prints a checksum.
 #include "blocks.hpp"
 #include <algorithm>
 #include <cstdint>
@@ -9,6 +11,7 @@
 #include <cstdlib>
 #include <cstring>
 #include <malloc.h>
+#include <memory>
 #include <string>
 #include <vector>
 
@@ -66,13 +69,68 @@ uint64_t pick_packed(const uint8_t *bytes, int width, size_t place) {
     return value & (~0ull >> (64 - width));
 }
 
-// Each format encodes a block at the end of a file, decodes it from its first byte, and picks a value.
+// How many bytes so many values of a tail take.
+size_t tail_size(size_t count, int width) { return (count * width + 7) / 8; }
+
+void pack_tail(const uint64_t *values, size_t count, int width, uint8_t *into) {
+    if (width == 64) {
+        memcpy(into, values, 8 * count);
+        return;
+    }
+    // the bits that wait for a word
+    unsigned __int128 open = 0;
+    int bits = 0;
+    for (size_t place = 0; place < count; place++) {
+        open |= (unsigned __int128)values[place] << bits;
+        bits += width;
+        if (bits >= 64) {
+            memcpy(into, &open, 8);
+            into += 8;
+            bits -= 64;
+            open >>= 64;
+        }
+    }
+    memcpy(into, &open, (bits + 7) / 8);
+}
+
+// The value at a place of a tail, from at most 16 bytes.
+uint64_t pick_tail(const uint8_t *bytes, size_t size, int width, size_t place) {
+    if (width == 0) return 0;
+    const size_t bit = place * width;
+    unsigned __int128 window = 0;
+    if (bit / 8 + 16 <= size) {
+        memcpy(&window, bytes + bit / 8, 16);
+    } else {
+        memcpy(&window, bytes + bit / 8, size - bit / 8);
+    }
+    return (uint64_t)(window >> bit % 8) & (~0ull >> (64 - width));
+}
+
+void unpack_tail(const uint8_t *bytes, size_t size, int width, size_t count, uint64_t *values) {
+    if (width == 64) {
+        memcpy(values, bytes, size);
+        return;
+    }
+    for (size_t place = 0; place < count; place++) values[place] = pick_tail(bytes, size, width, place);
+}
+
+// Each format encodes a block at the end of a file, decodes it from its first byte, and picks a value. The blocks of the first two
+// have one length. A format that morphs go to says how long a block is, and writes it where there is room.
 struct Plain {
     static constexpr int TAG = 0;
+
+    static size_t size(int) { return sizeof(Block); }
 
     static void encode(int, const uint64_t *values, Bytes &bytes) {
         const uint8_t *first = (const uint8_t *)values;
         bytes.insert(bytes.end(), first, first + sizeof(Block));
+    }
+
+    static size_t length(const uint64_t *) { return sizeof(Block); }
+
+    static size_t write(const uint64_t *values, uint8_t *into) {
+        memcpy(into, values, sizeof(Block));
+        return sizeof(Block);
     }
 
     static void decode(int, const uint8_t *bytes, uint64_t *values) { memcpy(values, bytes, sizeof(Block)); }
@@ -82,6 +140,8 @@ struct Plain {
 
 struct Static {
     static constexpr int TAG = 1;
+
+    static size_t size(int width) { return 128 * width; }
 
     static void encode(int width, const uint64_t *values, Bytes &bytes) {
         const size_t end = bytes.size();
@@ -105,6 +165,15 @@ struct Dynamic {
         pack(values, width, &bytes[end] + 1);
     }
 
+    static size_t length(const uint64_t *values) { return 1 + 128 * width_of(values, VALUES); }
+
+    static size_t write(const uint64_t *values, uint8_t *into) {
+        const int width = width_of(values, VALUES);
+        into[0] = width;
+        pack(values, width, into + 1);
+        return 1 + 128 * width;
+    }
+
     static void decode(int, const uint8_t *bytes, uint64_t *values) { unpack(bytes + 1, bytes[0], values); }
 
     static uint64_t pick(int, const uint8_t *bytes, size_t place) { return pick_packed(bytes + 1, bytes[0], place); }
@@ -115,17 +184,27 @@ struct Runs {
 
     static void encode(int, const uint64_t *values, Bytes &bytes) {
         const size_t front = bytes.size();
-        uint16_t runs = 0;
         bytes.resize(front + 2 + CELL * VALUES);
-        uint8_t *cell = &bytes[front] + 2;
+        bytes.resize(front + write(values, &bytes[front]));
+    }
+
+    static size_t length(const uint64_t *values) {
+        size_t runs = 1;
+        for (size_t place = 1; place < VALUES; place++) runs += values[place] != values[place - 1];
+        return 2 + CELL * runs;
+    }
+
+    static size_t write(const uint64_t *values, uint8_t *into) {
+        uint16_t runs = 0;
+        uint8_t *cell = into + 2;
         for (size_t place = 0, end; place < VALUES; place = end, runs++, cell += CELL) {
             for (end = place; end < VALUES && values[end] == values[place];) end++;
             const uint16_t times = end - place;
             memcpy(cell, values + place, 8);
             memcpy(cell + 8, &times, 2);
         }
-        memcpy(&bytes[front], &runs, 2);
-        bytes.resize(front + 2 + CELL * runs);
+        memcpy(into, &runs, 2);
+        return 2 + CELL * runs;
     }
 
     static void decode(int, const uint8_t *bytes, uint64_t *values) { write_runs(number_at<uint16_t>(bytes), bytes + 2, values); }
@@ -147,6 +226,20 @@ struct Delta {
         for (size_t place = 1; place < VALUES; place++) differences[place] = values[place] - values[place - 1];
         put_number(bytes, values[0]);
         Dynamic::encode(0, differences, bytes);
+    }
+
+    static size_t length(const uint64_t *values) {
+        uint64_t all = 0;
+        for (size_t place = 1; place < VALUES; place++) all |= values[place] - values[place - 1];
+        return 8 + 1 + 128 * width_of(&all, 1);
+    }
+
+    static size_t write(const uint64_t *values, uint8_t *into) {
+        Block differences;
+        differences[0] = 0;
+        for (size_t place = 1; place < VALUES; place++) differences[place] = values[place] - values[place - 1];
+        memcpy(into, values, 8);
+        return 8 + Dynamic::write(differences, into + 8);
     }
 
     static void decode(int, const uint8_t *bytes, uint64_t *values) {
@@ -199,56 +292,83 @@ struct Reference {
     }
 };
 
-// A column's file, and where its blocks start.
+// A column's file, and what its head says.
 struct Column {
-    int width;
+    int tag, width, tail_width;
     uint64_t count;
     Bytes bytes;
-    Words starts;
-
-    Column(int tag, int width) : width(width), count(0), bytes(HEAD) {
-        memcpy(&bytes[0], "MCOL\1", 5);
-        bytes[5] = tag;
-        bytes[6] = width;
-    }
 
     size_t whole() const { return count / VALUES; }
-    const uint8_t *block(size_t number) const { return &bytes[starts[number]]; }
-    const uint8_t *tail() const { return bytes.data() + bytes.size() - 8 * (count % VALUES); }
+    size_t rest() const { return count % VALUES; }
+    size_t tail_len() const { return tail_size(rest(), tail_width); }
+    const uint8_t *tail() const { return bytes.data() + bytes.size() - tail_len(); }
 
-    template <class Form> void add_block(const uint64_t *values) {
-        starts.push_back(bytes.size());
-        Form::encode(width, values, bytes);
-        count += VALUES;
+    template <class Form> const uint8_t *block(size_t number) const {
+        if constexpr (Form::TAG < 2) return &bytes[HEAD + Form::size(width) * number];
+        else return &bytes[number_at<uint64_t>(&bytes[HEAD + 8 * number])];
+    }
+};
+
+void put_head(uint8_t *into, int tag, int width, int tail_width, uint64_t count) {
+    memcpy(into, "MCOL\2", 5);
+    into[5] = tag;
+    into[6] = width;
+    into[7] = tail_width;
+    memcpy(into + 8, &count, 8);
+}
+
+// A column under way: its blocks, behind room for the head and for as many entries of a directory as there are known to be.
+template <class Form> struct Blocks {
+    Column column;
+    Words starts;
+    size_t room;
+
+    Blocks(int width, size_t blocks) : column{Form::TAG, width, 0, 0, {}}, room(Form::TAG < 2 ? 0 : 8 * blocks) {
+        column.bytes.resize(HEAD + room);
     }
 
-    void finish(const uint64_t *values, size_t rest) {
-        const uint8_t *first = (const uint8_t *)values;
-        bytes.insert(bytes.end(), first, first + 8 * rest);
-        count += rest;
-        memcpy(&bytes[8], &count, 8);
+    void add(const uint64_t *values) {
+        if (Form::TAG >= 2) starts.push_back(column.bytes.size());
+        Form::encode(column.width, values, column.bytes);
+        column.count += VALUES;
+    }
+
+    Column finish(const uint64_t *values, size_t rest) {
+        Bytes &bytes = column.bytes;
+        const size_t more = 8 * starts.size() - room;
+        if (more > 0) bytes.insert(bytes.begin() + HEAD, more, 0);
+        for (uint64_t &start : starts) start += more;
+        if (!starts.empty()) memcpy(&bytes[HEAD], starts.data(), 8 * starts.size());
+        column.count += rest;
+        column.tail_width = Form::TAG == Plain::TAG ? 64 : width_of(values, rest);
+        const size_t end = bytes.size();
+        bytes.resize(end + column.tail_len());
+        pack_tail(values, rest, column.tail_width, bytes.data() + end);
+        put_head(bytes.data(), column.tag, column.width, column.tail_width, column.count);
+        return std::move(column);
     }
 };
 
 template <class Form> Column encode_list(const Words &values) {
     const size_t whole = values.size() / VALUES * VALUES;
-    Column column(Form::TAG, Form::TAG == Static::TAG ? width_of(values.data(), whole) : 0);
-    column.bytes.reserve(HEAD + 8 * values.size());
-    for (size_t start = 0; start < whole; start += VALUES) column.add_block<Form>(values.data() + start);
-    column.finish(values.data() + whole, values.size() - whole);
-    return column;
+    const int width = Form::TAG == Static::TAG ? width_of(values.data(), whole) : 0;
+    Blocks<Form> blocks(width, whole / VALUES);
+    blocks.column.bytes.reserve(HEAD + 8 * values.size());
+    blocks.starts.reserve(whole / VALUES);
+    for (size_t start = 0; start < whole; start += VALUES) blocks.add(values.data() + start);
+    return blocks.finish(values.data() + whole, values.size() - whole);
 }
 
 template <class Form> struct Builder {
-    Column column;
+    Blocks<Form> blocks;
     size_t held = 0;
     Block block;
 
-    explicit Builder(int width) : column(Form::TAG, width) {}
+    explicit Builder(int width) : blocks(width, 0) {}
 
     void push(uint64_t value) {
         if (held == VALUES) {
-            column.add_block<Form>(block);
+            blocks.add(block);
             held = 0;
         }
         block[held++] = value;
@@ -256,11 +376,10 @@ template <class Form> struct Builder {
 
     Column finish() {
         if (held == VALUES) {
-            column.add_block<Form>(block);
+            blocks.add(block);
             held = 0;
         }
-        column.finish(block, held);
-        return std::move(column);
+        return blocks.finish(block, held);
     }
 };
 
@@ -295,24 +414,40 @@ Words places_of(bool random, uint64_t count) {
     return places;
 }
 
-uint64_t bytes_sum(const Bytes &bytes) {
-    uint64_t sum = 0;
-    for (uint8_t byte : bytes) sum = sum * 31 + byte;
-    return sum + bytes.size();
+// How many runs stand before the value's own, and 1 more if the first value is not 0.
+Words rising_runs(size_t count) {
+    Words values = values_of(Runs::TAG, count);
+    uint64_t runs = 0, before = 0;
+    for (uint64_t &value : values) {
+        if (value != before) {
+            before = value;
+            runs++;
+        }
+        value = runs;
+    }
+    return values;
 }
 
-uint64_t round_sum(const Column &column, uint64_t round) {
-    const uint64_t byte = (round & 1023) < column.bytes.size() ? column.bytes[round & 1023] : 0;
-    return byte + (column.bytes.size() ^ round);
+uint64_t bytes_sum(const uint8_t *bytes, size_t size) {
+    uint64_t sum = 0;
+    for (size_t place = 0; place < size; place++) sum = sum * 31 + bytes[place];
+    return sum + size;
 }
+
+uint64_t round_sum(const uint8_t *bytes, size_t size, uint64_t round) {
+    const uint64_t byte = (round & 1023) < size ? bytes[round & 1023] : 0;
+    return byte + (size ^ round);
+}
+
+uint64_t round_sum(const Column &column, uint64_t round) { return round_sum(column.bytes.data(), column.bytes.size(), round); }
 
 template <class Form> __attribute__((noinline)) size_t read_block(const Column &column, size_t number, uint64_t *values) {
     if (number < column.whole()) {
-        Form::decode(column.width, column.block(number), values);
+        Form::decode(column.width, column.block<Form>(number), values);
         return VALUES;
     }
-    memcpy(values, column.tail(), 8 * (column.count % VALUES));
-    return column.count % VALUES;
+    unpack_tail(column.tail(), column.tail_len(), column.tail_width, column.rest(), values);
+    return column.rest();
 }
 
 template <class Form> uint64_t cursor_round(const Column &column, size_t place) {
@@ -328,8 +463,8 @@ template <class Form> __attribute__((noinline)) uint64_t picked(const Column &co
     uint64_t sum = 0;
     for (uint64_t place : places) {
         const size_t number = place / VALUES, rest = place % VALUES;
-        sum += number < column.whole() ? Form::pick(column.width, column.block(number), rest)
-                                       : number_at<uint64_t>(column.tail() + 8 * rest);
+        sum += number < column.whole() ? Form::pick(column.width, column.block<Form>(number), rest)
+                                       : pick_tail(column.tail(), column.tail_len(), column.tail_width, rest);
     }
     return sum;
 }
@@ -352,11 +487,81 @@ template <class Form> __attribute__((noinline)) Column built(const Words &values
     return builder.finish();
 }
 
-template <class Form> uint64_t rounds_of(const std::string &task, size_t count, uint64_t rounds, bool picks) {
+// The file of a morph, in memory that is not written before.
+struct File {
+    size_t size;
+    std::unique_ptr<uint8_t[]> bytes;
+
+    explicit File(size_t size) : size(size), bytes(new uint8_t[size]) {}
+};
+
+File copied(const Column &column) {
+    File file(column.bytes.size());
+    memcpy(file.bytes.get(), column.bytes.data(), file.size);
+    return file;
+}
+
+// The first pass finds the new file's length, and the second writes it. No new format has a static width.
+template <class From, class To> __attribute__((noinline)) File morphed(const Column &column) {
+    const size_t whole = column.whole(), rest = column.rest();
+    const size_t front = HEAD + (To::TAG < 2 ? 0 : 8 * whole);
+    Block values;
+    size_t length = front;
+    for (size_t number = 0; number < whole; number++) {
+        read_block<From>(column, number, values);
+        length += To::length(values);
+    }
+    if (rest > 0) read_block<From>(column, whole, values);
+    const int tail_width = To::TAG == Plain::TAG ? 64 : width_of(values, rest);
+    File file(length + tail_size(rest, tail_width));
+    uint8_t *bytes = file.bytes.get();
+    size_t end = front;
+    for (size_t number = 0; number < whole; number++) {
+        read_block<From>(column, number, values);
+        if (To::TAG >= 2) memcpy(bytes + HEAD + 8 * number, &end, 8);
+        end += To::write(values, bytes + end);
+    }
+    if (rest > 0) read_block<From>(column, whole, values);
+    pack_tail(values, rest, tail_width, bytes + end);
+    put_head(bytes, To::TAG, 0, tail_width, column.count);
+    return file;
+}
+
+template <class From> File morph(const Column &column, const std::string &format) {
+    if constexpr (From::TAG != Plain::TAG) {
+        if (format == "plain") return morphed<From, Plain>(column);
+    }
+    if constexpr (From::TAG != Dynamic::TAG) {
+        if (format == "dynamic") return morphed<From, Dynamic>(column);
+    }
+    if constexpr (From::TAG != Runs::TAG) {
+        if (format == "runs") return morphed<From, Runs>(column);
+    }
+    if constexpr (From::TAG != Delta::TAG) {
+        if (format == "delta1+dynamic") return morphed<From, Delta>(column);
+    }
+    return copied(column);
+}
+
+template <class Form> uint64_t morph_rounds(size_t count, uint64_t rounds, const std::string &format) {
+    const Column column = encode_list<Form>(rising_runs(count));
+    const File first = morph<Form>(column, format);
+    uint64_t sum = bytes_sum(column.bytes.data(), column.bytes.size()) + bytes_sum(first.bytes.get(), first.size);
+    for (uint64_t round = 0; round < rounds; round++) {
+        asm volatile("" ::: "memory");
+        const File file = morph<Form>(column, format);
+        sum += round_sum(file.bytes.get(), file.size, round);
+    }
+    return sum;
+}
+
+template <class Form> uint64_t rounds_of(const std::string &task, size_t count, uint64_t rounds, const std::string &way) {
+    if (task == "morph") return morph_rounds<Form>(count, rounds, way);
+    const bool picks = way == "pick";
     const Words values = values_of(Form::TAG, count);
     const Column column = encode_list<Form>(values);
     const Words places = places_of(task == "random", count);
-    uint64_t sum = bytes_sum(column.bytes);
+    uint64_t sum = bytes_sum(column.bytes.data(), column.bytes.size());
     for (uint64_t round = 0; round < rounds; round++) {
         asm volatile("" ::: "memory");
         if (task == "cursor") sum += cursor_round<Form>(column, round & 1023);
@@ -375,13 +580,13 @@ int main(int count, char **words) {
     const std::string task = words[1], format = words[2];
     const size_t values = strtoull(words[3], nullptr, 10);
     const uint64_t rounds = strtoull(words[4], nullptr, 10);
-    const bool picks = count > 5 && words[5] == std::string("pick");
+    const std::string way = count > 5 ? words[5] : "";
     uint64_t sum = 0;
-    if (format == "plain") sum = rounds_of<Plain>(task, values, rounds, picks);
-    if (format == "static") sum = rounds_of<Static>(task, values, rounds, picks);
-    if (format == "dynamic") sum = rounds_of<Dynamic>(task, values, rounds, picks);
-    if (format == "runs") sum = rounds_of<Runs>(task, values, rounds, picks);
-    if (format == "delta1+dynamic") sum = rounds_of<Delta>(task, values, rounds, picks);
-    if (format == "reference+dynamic") sum = rounds_of<Reference>(task, values, rounds, picks);
+    if (format == "plain") sum = rounds_of<Plain>(task, values, rounds, way);
+    if (format == "static") sum = rounds_of<Static>(task, values, rounds, way);
+    if (format == "dynamic") sum = rounds_of<Dynamic>(task, values, rounds, way);
+    if (format == "runs") sum = rounds_of<Runs>(task, values, rounds, way);
+    if (format == "delta1+dynamic") sum = rounds_of<Delta>(task, values, rounds, way);
+    if (format == "reference+dynamic") sum = rounds_of<Reference>(task, values, rounds, way);
     printf("%llu\n", (unsigned long long)sum);
 }

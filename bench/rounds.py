@@ -14,13 +14,19 @@ def processor():
     return sys.argv[1] if len(sys.argv) > 1 else "x86-64-v2"
 
 
-def programs(folder, crate, source, *flags):
-    """The crate's program and that of the C++ source, built for the processor and put into the folder."""
-    ours, theirs = os.path.join(folder, "ours"), os.path.join(folder, "theirs")
+def own_program(folder, crate):
+    """The crate's program, built for the processor and put into the folder."""
+    ours = os.path.join(folder, "ours")
     home = os.path.join(ROOT, "crates", crate)
     subprocess.run(["rt", "run", "--cpu", processor()], cwd=home, check=True, stdin=subprocess.DEVNULL,
                    stdout=subprocess.DEVNULL, stderr=subprocess.DEVNULL)
     subprocess.run(["cp", os.path.join(home, "out", crate), ours], check=True)
+    return ours
+
+
+def programs(folder, crate, source, *flags):
+    """The crate's program and that of the C++ source, built for the processor and put into the folder."""
+    ours, theirs = own_program(folder, crate), os.path.join(folder, "theirs")
     subprocess.run(["g++", "-O3", f"-march={processor()}", "-Wno-psabi", *flags, "-o", theirs, os.path.join(ROOT, "bench", source)],
                    check=True)
     return ours, theirs

@@ -20,7 +20,7 @@ pub fn bytes_sum(bytes: &[u8]) -> u64 {
 }
 
 /// A byte and the length of a column's file.
-fn round_sum(column: &Column, round: u64) -> u64 {
+pub fn round_sum(column: &Column, round: u64) -> u64 {
     let bytes = column.encoded();
     let byte = match bytes.get(round as usize & 1023) {
         Some(byte) => u64::from(*byte),

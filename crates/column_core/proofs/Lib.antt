@@ -1,7 +1,12 @@
-pub mod BlockLemmas
-pub mod EncodedLemmas
 pub mod HeadLemmas
-pub mod BuilderLemmas
-pub mod PlainLemmas
+pub mod FileHeadLemmas
 pub mod WordLemmas
-pub mod ReserveLemmas
+pub mod PlainLemmas
+pub mod BlockAtLemmas
+pub mod BlockLemmas
+pub mod BuilderLemmas
+pub mod EncodedLemmas
+pub mod ColumnLemmas
+pub mod FileLemmas
+pub mod FinishLemmas
+pub mod UpgradeLemmas

@@ -26,7 +26,7 @@ pub record IsBuilding (format : Format) (width : ℕ) (values block : List ℕ) 
   pub few : length (values ++ block) ≤ max_rows
   pub fits : fits_columns (format_of format) width (values ++ block) ≡ true
 
--- Which lists a builder is sure to take: those of which the head and the whole blocks, and the number of values, are within
--- what is reserved.
+-- Which lists a builder is sure to take: those of which the head, the directory and the whole blocks, and the number of values,
+-- are within what is reserved.
 abbrev pub has_room : Frame → List ℕ → Bool
 has_room of values = is_within_room (format_of of.format) of.width of.reserve.bytes of.reserve.count values

@@ -32,8 +32,16 @@ pub fn check_block(format: Format, static_width: u8, bytes: &[u8]) -> Option<usi
     }
 }
 
-/// How long the encoding of a block is.
+/// How many bytes the encoding of a block has: 10,250 at most, since a block has at most 1,024 runs.
 pub fn block_len(format: Format, static_width: u8, full: &Block) -> usize
+    requires { (bytes : List ℕ) × BlockOf (format_of format) static_width full.now bytes }
+    ensures len { (bytes : List ℕ) → BlockOf (format_of format) static_width full.now bytes → result ≡ length bytes }
+    ensures small { result ≤ 10250 }
+{
+    len_of_encoding(format, static_width, full)
+}
+
+fn len_of_encoding(format: Format, static_width: u8, full: &Block) -> usize
     requires { (bytes : List ℕ) × BlockOf (format_of format) static_width full.now bytes }
     ensures { (bytes : List ℕ) → BlockOf (format_of format) static_width full.now bytes → result ≡ length bytes }
 {

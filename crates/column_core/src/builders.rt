@@ -51,7 +51,7 @@ impl Builder {
     }
 
     /// Takes memory ahead, so that pushes need none. From now on a push is `Ok` as long as the list has at most `count` values
-    /// and its head and whole blocks have at most `bytes` bytes. `finish` is `Ok` if that holds of the whole file. The numbers
+    /// and its head, directory and whole blocks have at most `bytes` bytes. `finish` is `Ok` if that holds of the whole file. The numbers
     /// are for the whole list, with what was pushed before; less than was reserved before changes nothing. Nor does an `Err`.
     pub fn reserve(&mut self, bytes: u64, count: u64) -> Result<(), AllocError>
         ensures ok { OnOk result (self.new ≡ encoding_of self.old.format self.old.width
@@ -92,8 +92,7 @@ impl Builder {
         if block.as_slice().len() == BLOCK_LEN {
             flush(&mut encoded, &mut block)?;
         }
-        encoded.push_tail(block.as_slice())?;
-        Ok(Column::from_encoded(encoded))
+        encoded.finish(block.as_slice())
     }
 }
 
@@ -221,6 +220,5 @@ pub fn encode_list(alloc: Global, values: &[u64], format: Format) -> Result<Colu
         fill_from(&mut block, &values[start..start + BLOCK_LEN]);
         encoded.push_block(&block)?;
     }
-    encoded.push_tail(&values[whole..])?;
-    Ok(Column::from_encoded(encoded))
+    encoded.finish(rest_from(values, whole))
 }

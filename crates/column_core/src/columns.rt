@@ -1,65 +1,100 @@
-//! A column: one list in one format, as its file.
+//! Columns: a format and a list, kept as the list's file.
 
-ghost use Rattle.std.specs.Prelude.{◌≡◌, ◌+◌, ◌*◌, ◌/◌, ◌%◌, ◌<◌, ◌≤◌, ℕ, List as Items, length, slice_index, drop, true, IfSome};
+ghost use Rattle.std.specs.Prelude.{◌≡◌, ◌+◌, ◌-◌, ◌*◌, ◌/◌, ◌%◌, ◌<◌, ◌≤◌, true, ℕ, List as Items, length, take, drop, slice_index, IfOk, IfSome};
+ghost use Rattle.definitions_blocks.specs.Words.{word_of};
 ghost use Rattle.definitions_blocks.specs.Blocks.{block_values, block_at};
 ghost use Rattle.definitions_blocks.specs.Columns.{IsColumn, max_rows};
 ghost use Rattle.definitions_blocks.specs.Formats.{plain, BlockOf, IsColumnWidth};
-ghost use Rattle.definitions_columns.specs.ColumnFiles.{IsColumnFile, IsIndexed, fits_columns, static_width_of};
+ghost use Rattle.definitions_columns.specs.Tails.{IsPackedTail};
+ghost use Rattle.definitions_columns.specs.ColumnFiles.{first, second, head_len, IsFileOf, IsColumnFile, static_width_of, tail_width_of, fits_columns};
+ghost use Rattle.definitions_columns.specs.Sizes.{whole_count, block_start, front_size, tail_of};
 ghost use Rattle.block_core.specs.Formats.{format_of};
-ghost use Rattle.column_core.specs.Columns.{shape};
+ghost use Rattle.column_core.specs.Columns.{shape, Stored, Stored-prop};
 
 use crate::blocks::{decode_block, pick_value};
-use crate::encodings::Encoded;
 use crate::heads::{HEAD_LEN, head_of};
-use crate::words::{number_at, push_words};
+use crate::upgrades::upgraded;
+use crate::words::{number_at, rest_from};
 use block_core::{BLOCK_LEN, Block, Format};
+use std::alloc::{AllocError, Global};
 use std::marker::Model;
 use stream_core::{Bytes, List};
+use tail_pack::packed_len;
 
-/// A list of at most 268,435,456 numbers in one format. It holds the column's file, and where each whole block starts in it.
+/// A list of at most 268,435,456 numbers in one format. It is held as its file alone: what the head says is kept beside it, and
+/// where a block starts is read from the directory or follows from the format.
 #[derive(Drop)]
 pub struct Column {
-    encoded: Encoded,
+    format: Format,
+    static_width: u8,
+    tail_width: u8,
+    count: u64,
+    bytes: Vec<u8>,
+    ghost stored: { Stored format bytes.items } by { Stored-prop format bytes.items },
 }
 
 impl Model for Column {
-    ghost use Rattle.std.specs.Prelude.{◌≡◌};
-    ghost use Rattle.definitions_columns.specs.ColumnFiles.{static_width_of};
+    ghost use Rattle.std.specs.Prelude.{◌≡◌, length};
+    ghost use Rattle.definitions_columns.specs.ColumnFiles.{second, IsColumnFile, static_width_of, tail_width_of};
+    ghost use Rattle.definitions_columns.specs.Sizes.{tail_of};
     ghost use Rattle.block_core.specs.Formats.{format_of};
     ghost use Rattle.column_core.specs.Columns.{Shape, shape};
 
     ghost Value = { Shape };
 
-    ghost view = { λ column. shape column.encoded.format column.encoded.values };
+    ghost view = { λ column. shape column.format column.stored.0 };
 
-    ghost invariant = { λ column. column.encoded.width ≡ static_width_of (format_of column.encoded.format) column.encoded.values };
+    ghost invariant = { λ column. IsColumnFile (format_of column.format) column.stored.0 column.bytes.items
+        × (column.static_width ≡ static_width_of (format_of column.format) column.stored.0)
+        × (column.tail_width ≡ tail_width_of second (format_of column.format) (tail_of column.stored.0))
+        × (column.count ≡ length column.stored.0) };
 }
 
 impl Column {
-    /// The column whose file the bytes are, with the places where its whole blocks start. Only the head is read.
-    pub fn adopt(bytes: Bytes, starts: List<u64>) -> Column
-        requires { (format : Format) × (values : Items ℕ)
-            × IsIndexed (format_of format) (static_width_of (format_of format) values) values bytes starts }
+    /// The column whose file the bytes are, which are kept as they are. It is the caller who knows that they are a file:
+    /// nothing is checked. `column_file::read_column` checks bytes from outside.
+    pub fn of_file(bytes: Bytes) -> Column
+        requires { (format : Format) × (values : Items ℕ) × IsColumnFile (format_of format) values bytes }
         ensures { (format : Format) (values : Items ℕ) → IsColumnFile (format_of format) values bytes → result ≡ shape format values }
+    {
+        Column::of_vec(bytes.into_vec())
+    }
+
+    /// The same, for a caller who knows where the whole blocks start. The file says it already, so the list is let go.
+    pub fn adopt(bytes: Bytes, _starts: List<u64>) -> Column
+        requires { (format : Format) × (values : Items ℕ) × IsColumnFile (format_of format) values bytes }
+        ensures { (format : Format) (values : Items ℕ) → IsColumnFile (format_of format) values bytes → result ≡ shape format values }
+    {
+        Column::of_file(bytes)
+    }
+
+    /// The column of a file of the first version, which must be one. Its blocks are kept: they move up behind a directory, and
+    /// the values after them are packed. It takes 8 bytes for each whole block while it works.
+    pub fn upgrade(alloc: Global, bytes: Bytes) -> Result<Column, AllocError>
+        requires { (format : Format) × (values : Items ℕ) × IsFileOf first (format_of format) values bytes }
+        ensures { (format : Format) (values : Items ℕ) → IsFileOf first (format_of format) values bytes → IfOk result (λ column. column ≡ shape format values) }
+    {
+        upgraded(alloc, bytes.into_vec())
+    }
+
+    pub(crate) fn of_vec(bytes: Vec<u8>) -> Column
+        requires { (format : Format) × (values : Items ℕ) × IsColumnFile (format_of format) values bytes.items }
+        ensures { (format : Format) (values : Items ℕ) → IsColumnFile (format_of format) values bytes.items → result ≡ shape format values }
     {
         let head = head_of(bytes.as_slice());
         Column {
-            encoded: Encoded::adopt(head, bytes.into_vec(), starts.into_vec()),
+            format: head.format,
+            static_width: head.static_width,
+            tail_width: head.tail_width,
+            count: head.count,
+            bytes,
         }
-    }
-
-    /// The column that was encoded at the least width.
-    pub(crate) fn from_encoded(encoded: Encoded) -> Column
-        requires { encoded.width ≡ static_width_of (format_of encoded.format) encoded.values }
-        ensures { result ≡ shape encoded.format encoded.values }
-    {
-        Column { encoded }
     }
 
     pub fn format(&self) -> Format
         ensures { result ≡ self.now.format }
     {
-        self.encoded.format()
+        self.format
     }
 
     /// How many values there are.
@@ -68,7 +103,7 @@ impl Column {
         ensures few { length self.now.values ≤ max_rows }
         ensures column { IsColumn self.now.values }
     {
-        self.encoded.count()
+        self.count
     }
 
     /// The width in the head: in the format `static` the least that holds each value of the whole blocks, in any other 0. A
@@ -78,7 +113,7 @@ impl Column {
         ensures lawful { IsColumnWidth (format_of self.now.format) result }
         ensures fits { fits_columns (format_of self.now.format) result self.now.values ≡ true }
     {
-        self.encoded.width()
+        self.static_width
     }
 
     /// The column's file.
@@ -86,7 +121,7 @@ impl Column {
         ensures file { IsColumnFile (format_of self.now.format) self.now.values result.now }
         ensures one { (bytes : Items ℕ) → IsColumnFile (format_of self.now.format) self.now.values bytes → bytes ≡ result.now }
     {
-        self.encoded.bytes()
+        self.bytes.as_slice()
     }
 
     /// The encoding of a whole block.
@@ -95,7 +130,11 @@ impl Column {
         ensures { BlockOf (format_of self.now.format) (static_width_of (format_of self.now.format) self.now.values)
             (block_at self.now.values block) result.now }
     {
-        self.encoded.block_bytes(block)
+        part(
+            self.bytes.as_slice(),
+            self.block_start(block),
+            self.block_start(block + 1),
+        )
     }
 
     /// A value after the last whole block, by its place there.
@@ -103,7 +142,7 @@ impl Column {
         requires { place < length self.now.values % block_values }
         ensures { result ≡ slice_index self.now.values (length self.now.values / block_values * block_values + place) }
     {
-        number_at(self.encoded.tail_bytes(), place as usize)
+        tail_pack::pick(self.tail_bytes(), self.tail_width, place as usize)
     }
 
     /// Leaves the values of a block in `into`. The last block may be the tail, which is not whole.
@@ -115,8 +154,7 @@ impl Column {
             let bytes = self.block_bytes(number);
             decode_block::<L>(self.format(), self.static_width(), bytes, into);
         } else {
-            into.clear();
-            push_words(self.encoded.tail_bytes(), into);
+            tail_pack::unpack(self.tail_bytes(), self.tail_width, self.tail_len(), into);
         }
     }
 
@@ -126,7 +164,7 @@ impl Column {
         requires within { place < length self.now.values }
         ensures { result ≡ slice_index self.now.values place }
     {
-        number_at(words_in(self.encoded.bytes()), place as usize)
+        number_at(rest_from(self.bytes.as_slice(), HEAD_LEN), place as usize)
     }
 
     /// A value of a whole block, which is not decoded for it. There is none in the formats that give no value cheaper than all.
@@ -145,16 +183,60 @@ impl Column {
 
     /// How many whole blocks there are.
     pub(crate) fn whole_blocks(&self) -> u64
-        ensures { result ≡ length self.now.values / block_values }
+        ensures { result ≡ whole_count self.now.values }
     {
-        self.count() / BLOCK_LEN as u64
+        self.count / BLOCK_LEN as u64
+    }
+
+    /// How many values there are after the whole blocks.
+    fn tail_len(&self) -> usize
+        ensures count { result ≡ length self.now.values % block_values }
+        ensures tail { length (tail_of self.now.values) ≡ result }
+    {
+        self.count as usize % BLOCK_LEN
+    }
+
+    /// Where a whole block starts, and where the last one ends.
+    fn block_start(&self, block: u64) -> usize
+        requires { block ≤ whole_count self.now.values }
+        ensures { result ≡ block_start (format_of self.now.format) (static_width_of (format_of self.now.format) self.now.values) self.now.values block }
+    {
+        match self.format {
+            Format::Plain => HEAD_LEN + 8 * BLOCK_LEN * block as usize,
+            Format::Static => HEAD_LEN + 128 * self.static_width as usize * block as usize,
+            _ if block < self.whole_blocks() => entry_at(self.bytes.as_slice(), block as usize),
+            _ => self.tail_start(),
+        }
+    }
+
+    /// Where the values after the whole blocks start.
+    fn tail_start(&self) -> usize
+        ensures start { result ≡ front_size (format_of self.now.format) (static_width_of (format_of self.now.format) self.now.values) self.now.values }
+    {
+        self.bytes.len() - packed_len(self.tail_len(), self.tail_width)
+    }
+
+    /// The bytes of the values after the whole blocks.
+    fn tail_bytes(&self) -> &[u8]
+        ensures { IsPackedTail (tail_width_of second (format_of self.now.format) (tail_of self.now.values)) (tail_of self.now.values) result.now }
+    {
+        rest_from(self.bytes.as_slice(), self.tail_start())
     }
 }
 
-/// What follows a file's head.
-fn words_in(bytes: &[u8]) -> &[u8]
-    requires { 16 ≤ length bytes.now }
-    ensures { result.now ≡ drop 16 bytes.now }
+/// The directory's entry for a block.
+fn entry_at(bytes: &[u8], block: usize) -> usize
+    requires { head_len + 8 * block + 8 ≤ length bytes.now }
+    ensures { result ≡ word_of bytes.now (2 + block) }
 {
-    &bytes[HEAD_LEN..]
+    strand_pack::word_at(bytes, HEAD_LEN / 8 + block) as usize
+}
+
+/// The bytes from one place to another.
+fn part(bytes: &[u8], start: usize, end: usize) -> &[u8]
+    requires forward { start ≤ end }
+    requires within { end ≤ length bytes.now }
+    ensures { result.now ≡ take (end - start) (drop start bytes.now) }
+{
+    &bytes[start..end]
 }

@@ -17,17 +17,17 @@ pub fn one_encoding()
     ensures { OneEncoding }
 {}
 
-/// Bytes are the file of one column at most: no two lists share a file, in one format or in two.
+/// Bytes are the file of one column at most: no two lists share a file, in one format and version or in two.
 pub fn one_column()
     ensures { OneColumn }
 {}
 
-/// A list has one file at most in each format. So files can be compared in place of lists.
+/// A list has one file at most in each version and format. So files can be compared in place of lists.
 pub fn one_file()
     ensures { OneFile }
 {}
 
-/// Each list of at most 268,435,456 numbers below 2^64 has a file in each format.
+/// Each list of at most 268,435,456 numbers below 2^64 has a file in each version and format.
 pub fn has_file()
     ensures { HasFile }
 {}

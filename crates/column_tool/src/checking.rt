@@ -49,6 +49,7 @@ fn check_file(rt: &HostRuntime, bytes: &[u8]) -> io::Result<()> {
             println!(rt; "{name} {count} {sum}")
         }
         Err(ColumnError::BadHeader) => println!(rt; "bad header"),
+        Err(ColumnError::BadDirectory { block }) => println!(rt; "bad directory {block}"),
         Err(ColumnError::BadBlock { block }) => println!(rt; "bad block {block}"),
         Err(ColumnError::BadWidth) => println!(rt; "bad width"),
         Err(ColumnError::BadTail) => println!(rt; "bad tail"),

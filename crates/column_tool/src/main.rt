@@ -1,8 +1,8 @@
 //! Makes column files of words, and reads column files.
 //!
 //! `column_tool encode FORMAT` takes words of 8 bytes from standard input, the least byte first, and writes the file of the
-//! column that they are. `column_tool check` takes files from standard input, each after its length as such a word, and
-//! prints a line for each: its format, its count and the sum of its values, or why it is none.
+//! column that they are. `column_tool check` takes files of both versions from standard input, each after its length as such a
+//! word, and prints a line for each: its format, its count and the sum of its values, or why it is none.
 #![tactic(auto)]
 
 mod checking;

@@ -1,4 +1,6 @@
+pub mod Tails
 pub mod ColumnFiles
-pub mod FileLaws
 pub mod FileFaults
 pub mod Sizes
+pub mod FileLaws
+pub mod UnderWay

@@ -1,11 +1,12 @@
--- How long the files of a column are.
+-- How long the files of a column are, as they are written.
 use Rattle.std.specs.Prelude.{ℕ, zero, suc, ◌+◌, ◌*◌, ◌/◌, ◌%◌, Bool, ◌&&◌, nat_le, List, length}
 use Rattle.definitions_blocks.specs.Blocks.{block_values, block_at}
 use Rattle.definitions_blocks.specs.Encodings.{width_of}
 use Rattle.definitions_blocks.specs.Differences.{delta1_of, delta16_of, reference_of}
 use Rattle.definitions_blocks.specs.Runs.{run_count}
 use Rattle.definitions_blocks.specs.Formats.{Format, plain, static, dynamic, runs, delta1_dynamic, delta16_dynamic, reference_dynamic, delta1_runs}
-use Rattle.definitions_columns.specs.ColumnFiles.{static_width_of, head_len}
+use Rattle.definitions_columns.specs.Tails.{packed_len}
+use Rattle.definitions_columns.specs.ColumnFiles.{second, static_width_of, tail_width_of, first_start}
 
 -- a number for each of so many first blocks of a list, summed up
 abbrev pub sum_blocks : (List ℕ → ℕ) → List ℕ → ℕ → ℕ
@@ -39,18 +40,26 @@ whole_count values = length values / block_values
 abbrev pub blocks_size : Format → ℕ → List ℕ → ℕ
 blocks_size format width values = sum_blocks (block_size format width) values (whole_count values)
 
--- how long the head and the whole blocks of a list are
+-- how long the head, the directory and the whole blocks of a list are
 abbrev pub front_size : Format → ℕ → List ℕ → ℕ
-front_size format width values = head_len + blocks_size format width values
+front_size format width values = first_start second format (whole_count values) + blocks_size format width values
+
+-- where the whole block of this number starts in a list's file
+abbrev pub block_start : Format → ℕ → List ℕ → ℕ → ℕ
+block_start format width values number = first_start second format (whole_count values) + sum_blocks (block_size format width) values number
+
+-- the values after the last whole block
+abbrev pub tail_of : List ℕ → List ℕ
+tail_of values = block_at values (whole_count values)
 
 -- how long a list's file is at a width
 abbrev pub file_size : Format → ℕ → List ℕ → ℕ
-file_size format width values = front_size format width values + 8 * (length values % block_values)
+file_size format width values = front_size format width values + packed_len (length values % block_values) (tail_width_of second format (tail_of values))
 
 -- how long a list's one file is in a format
 abbrev pub size_of : Format → List ℕ → ℕ
 size_of format values = file_size format (static_width_of format values) values
 
--- whether the head, the whole blocks and the count of a list are within so many bytes and values
+-- whether the head, the directory and the whole blocks of a list are within so many bytes, and its count within so many values
 abbrev pub is_within_room : Format → ℕ → ℕ → ℕ → List ℕ → Bool
 is_within_room format width bytes count values = nat_le (front_size format width values) bytes && nat_le (length values) count

@@ -1,7 +1,7 @@
 -- A text spells one query at most.
-use Rattle.std.proofs.Common.{◌≡◌, ℕ, List, [], ◌∷◌, ◌++◌, Option, Some, None, refl, ap, ◌∙◌}
+use Rattle.std.proofs.Common.{◌≡◌, ℕ, List, [], ◌∷◌, Option, Some, None, refl, ap, ◌∙◌}
 use Rattle.engine_tool.specs.Tokens.{Token, Begins, AreTokens, behind, is_white_space}
-use Rattle.engine_tool.specs.Queries.{Condition, Query, Spells, item_tokens, table_tokens, where_tokens, query_tokens}
+use Rattle.engine_tool.specs.Queries.{Condition, Query, Spells, where_tokens, query_tokens}
 use Rattle.engine_tool.proofs.TextLemmas.{lacks_token, lacks_at_end, begins_next, begins_same}
 
 -- the tokens up to a text's end are one list

@@ -1,7 +1,7 @@
 -- A command has one reply at most.
 use Rattle.std.proofs.Common.{◌≡◌, ℕ, List, inl, inr, Option, Some, None, Result, Ok, Err, refl, sym, ap, subst, ◌∙◌}
-use Rattle.definitions_columns.specs.FileFaults.{FileFault, HasFileFault}
-use Rattle.definitions_columns.proofs.FaultLaws.{HasFileFault-one, HasFileFault-none}
+use Rattle.definitions_columns.specs.FileFaults.{HasFileFault}
+use Rattle.definitions_columns.proofs.FaultLaws.{one_fault, no_fault}
 use Rattle.definitions_columns.proofs.FileLaws as laws
 use Rattle.stream_core.specs.Files.{Files}
 use Rattle.stream_core.specs.Names.{column_file_name}
@@ -10,7 +10,7 @@ use Rattle.engine_tool.specs.declared.commands.Command.{Command}
 use Rattle.engine_tool.specs.NowFiles.{Now}
 use Rattle.engine_tool.specs.Outcomes.{Refusal, Outcomes, Gives, OneOr, OneOrFault, Then}
 use Rattle.engine_tool.specs.Queries.{Condition, Query, Spells, max_query}
-use Rattle.engine_tool.specs.Replies.{Answer, Reply, Replies, Means, Loaded, OneReply, IsFileOf, ValuesOf, RowsOf, ColumnOf, TestedOf, LoadedOf, QueryOf, AnswerOf, QueryReply, bad_query, bad_file, limited, fault_text, now_of, column_bytes, for_rows, kept_in, answer_over, unchanged, reply_of}
+use Rattle.engine_tool.specs.Replies.{Means, OneReply, HoldsColumn, ValuesOf, RowsOf, ColumnOf, TestedOf, LoadedOf, QueryOf, AnswerOf, bad_query, bad_file, limited, fault_text, now_of, column_bytes, for_rows, kept_in, answer_over, unchanged, reply_of}
 use Rattle.engine_tool.proofs.OneQueryLemmas.{Spells-one}
 
 -- a step ends in one way at most
@@ -28,10 +28,10 @@ OneOr-one holds refusal one (Err r) (Err s) p q = ap (λ x. Err x) (p.1 ∙ sym 
 
 OneOrFault-one : {A F : Type 0} (holds : A → Type 0) (has : F → Type 0) (refusal : F → Refusal) → ((a b : A) → holds a → holds b → a ≡ b)
     → ((f g : F) → has f → has g → f ≡ g) → ((a : A) (f : F) → holds a → has f → ⊥) → IsOne (OneOrFault holds has refusal)
-OneOrFault-one holds has refusal one one_fault never (Ok a) (Ok b) p q = ap (λ x. Ok x) (one a b p q)
-OneOrFault-one holds has refusal one one_fault never (Ok a) (Err s) p q = absurd (never a q.0 p q.1)
-OneOrFault-one holds has refusal one one_fault never (Err r) (Ok b) p q = absurd (never b p.0 q p.1)
-OneOrFault-one holds has refusal one one_fault never (Err r) (Err s) p q = ap (λ x. Err x) (p.2 ∙ ap refusal (one_fault p.0 q.0 p.1 q.1) ∙ sym q.2)
+OneOrFault-one holds has refusal one single never (Ok a) (Ok b) p q = ap (λ x. Ok x) (one a b p q)
+OneOrFault-one holds has refusal one single never (Ok a) (Err s) p q = absurd (never a q.0 p q.1)
+OneOrFault-one holds has refusal one single never (Err r) (Ok b) p q = absurd (never b p.0 q p.1)
+OneOrFault-one holds has refusal one single never (Err r) (Err s) p q = ap (λ x. Err x) (p.2 ∙ ap refusal (single p.0 q.0 p.1 q.1) ∙ sym q.2)
 
 -- constructors that agree or differ
 Ok-one : {A : Type 0} (a b : A) (end : Result A Refusal) → end ≡ Ok a → end ≡ Ok b → a ≡ b
@@ -59,10 +59,10 @@ QueryOf-one text =
 -- a file is one column's, or has one first fault
 ValuesOf-one : (name bytes : List ℕ) → IsOne (ValuesOf name bytes)
 ValuesOf-one name bytes =
-    OneOrFault-one (IsFileOf bytes) (HasFileFault bytes) (λ fault. bad_file name (fault_text fault))
-    (λ values others p q. (laws.one_column p.0 q.0 values others bytes p.1 q.1).1)
-    (HasFileFault-one bytes)
-    (λ values fault p has. HasFileFault-none p.0 values bytes fault p.1 has)
+    OneOrFault-one (HoldsColumn bytes) (HasFileFault bytes) (λ fault. bad_file name (fault_text fault))
+    (λ values others p q. (laws.one_column p.0 q.0 p.1 q.1 values others bytes p.2 q.2).2)
+    (one_fault bytes)
+    (λ values fault p has. no_fault p.0 p.1 values bytes fault p.2 has)
 
 RowsOf-one : (name : List ℕ) (rows : ℕ) (bytes : List ℕ) → IsOne (RowsOf name rows bytes)
 RowsOf-one name rows bytes = Then-one (ValuesOf name bytes) (λ values. Gives (for_rows name rows values)) (ValuesOf-one name bytes) (λ values. Gives-one (for_rows name rows values))

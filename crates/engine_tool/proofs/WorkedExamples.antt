@@ -1,5 +1,5 @@
 -- The definitions at worked values.
-use Rattle.std.proofs.Common.{◌≡◌, ℕ, List, Option, [], ◌∷◌, ◌++◌, Ok, Err, refl}
+use Rattle.std.proofs.Common.{◌≡◌, ℕ, List, [], ◌∷◌, ◌++◌, Ok, Err, refl}
 use Rattle.std.specs.Prelude.{Some, None, codes}
 use Rattle.definitions_columns.specs.FileFaults.{bad_width}
 use Rattle.std.specs.Str.{bytes_eq}
@@ -9,7 +9,7 @@ use Rattle.stream_core.specs.Names.{now_file_name}
 use Rattle.engine_tool.specs.declared.commands.Command.TheVariants as command
 use Rattle.definitions_blocks.specs.Words.{word_bytes}
 use Rattle.engine_tool.specs.Commands.{command_in}
-use Rattle.engine_tool.specs.NowFiles.{Now, now_file, now_in}
+use Rattle.engine_tool.specs.NowFiles.{now_in}
 use Rattle.engine_tool.specs.TableFiles.{slot_to_write}
 use Rattle.engine_tool.specs.Replies.{bad_file, fault_text, answer_over, sum_too_wide}
 use Rattle.engine_tool.specs.Tokens.{word, number, string, symbol, token_at}

@@ -1,8 +1,8 @@
 -- What each command answers, for an outside that does not fail.
 use Rattle.std.specs.Prelude.{◌≡◌, ℕ, ◌^◌, ◌==◌, nat_le, nat_lt, List, [], ◌++◌, length, sum, codes, decimal, Option, Some, None, Result, Ok, Err, ok_or, if◌then◌else◌}
 use Rattle.definitions_blocks.specs.Formats.{Format}
-use Rattle.definitions_columns.specs.ColumnFiles.{IsColumnFile}
-use Rattle.definitions_columns.specs.FileFaults.{FileFault, bad_header, bad_block, bad_width, bad_tail, HasFileFault}
+use Rattle.definitions_columns.specs.ColumnFiles.{Version, IsFileOf}
+use Rattle.definitions_columns.specs.FileFaults.{FileFault, bad_header, bad_directory, bad_block, bad_width, bad_tail, HasFileFault}
 use Rattle.definitions_operators.specs.Sums.{kept_values, sum_over}
 use Rattle.stream_core.specs.Files.{Files}
 use Rattle.stream_core.specs.Names.{now_file_name, column_file_name}
@@ -48,6 +48,7 @@ now_of files table = bind (file_of files (now_file_name table)) (λ bytes. ok_or
 -- what is said of a fault of a column file
 abbrev pub fault_text : FileFault → List ℕ
 fault_text bad_header = codes "bad header"
+fault_text (bad_directory block) = codes "bad directory " ++ decimal block
 fault_text (bad_block block) = codes "bad block " ++ decimal block
 fault_text bad_width = codes "bad width"
 fault_text bad_tail = codes "bad tail"
@@ -56,13 +57,13 @@ fault_text bad_tail = codes "bad tail"
 abbrev pub column_bytes : Files → List ℕ → Result (List ℕ) Refusal
 column_bytes files name = bind (file_of files name) (limited max_column_file (bad_file name (codes "too long")))
 
--- the bytes are the file of this column in some format
-abbrev pub IsFileOf : List ℕ → List ℕ → Type 0
-IsFileOf bytes values = (format : Format) × IsColumnFile format values bytes
+-- the bytes are the file of this column in some version and format
+abbrev pub HoldsColumn : List ℕ → List ℕ → Type 0
+HoldsColumn bytes values = (version : Version) × (format : Format) × IsFileOf version format values bytes
 
 -- the column whose file the bytes are, or their first fault
 abbrev pub ValuesOf : List ℕ → List ℕ → Outcomes (List ℕ)
-ValuesOf name bytes = OneOrFault (IsFileOf bytes) (HasFileFault bytes) (λ fault. bad_file name (fault_text fault))
+ValuesOf name bytes = OneOrFault (HoldsColumn bytes) (HasFileFault bytes) (λ fault. bad_file name (fault_text fault))
 
 -- one value for each row
 abbrev pub for_rows : List ℕ → ℕ → List ℕ → Result (List ℕ) Refusal

@@ -24,6 +24,7 @@ what_text what.NoFile = codes "no file"
 what_text what.TooLong = codes "too long"
 what_text what.BadNow = codes "bad now"
 what_text what.BadHeader = codes "bad header"
+what_text (what.BadDirectory block) = codes "bad directory " ++ decimal block
 what_text (what.BadBlock block) = codes "bad block " ++ decimal block
 what_text what.BadWidth = codes "bad width"
 what_text what.BadTail = codes "bad tail"

@@ -113,6 +113,7 @@ fn column_stop(file: &FileName, error: ColumnError) -> Stop
 {
     match error {
         ColumnError::BadHeader => refused(file, What::BadHeader),
+        ColumnError::BadDirectory { block } => refused(file, What::BadDirectory(block)),
         ColumnError::BadBlock { block } => refused(file, What::BadBlock(block)),
         ColumnError::BadWidth => refused(file, What::BadWidth),
         ColumnError::BadTail => refused(file, What::BadTail),
@@ -120,7 +121,8 @@ fn column_stop(file: &FileName, error: ColumnError) -> Stop
     }
 }
 
-/// The column whose file the bytes are. They are read once and kept as they are.
+/// The column whose file the bytes are. They are read once, and a file of version 2 is kept as it is. One of version 1 takes
+/// memory, after all of it was checked.
 fn checked_column(alloc: Global, file: &FileName, bytes: Bytes) -> Result<Column, Stop>
     ensures step { Ends values_of result (ValuesOf file.now bytes) }
     ensures kept { IsInner result }

@@ -9,7 +9,7 @@ use itoa::Buffer;
 use std::alloc::AllocError;
 use stream_core::FileName;
 
-/// A line has at most 115 bytes: `database: `, a file's name of at most 72, `: bad block ` and a number.
+/// A line has at most 119 bytes: `database: `, a file's name of at most 72, `: bad directory ` and a number.
 pub type Line = ArrayString<128>;
 
 /// What is wrong with a file of a table.
@@ -19,6 +19,7 @@ pub enum What {
     TooLong,
     BadNow,
     BadHeader,
+    BadDirectory(u64),
     BadBlock(u64),
     BadWidth,
     BadTail,
@@ -81,31 +82,34 @@ fn database_line(file: &FileName, what: What) -> Line
     line
 }
 
-/// Appends what is wrong with a file: at most 30 bytes.
+/// Appends what is wrong with a file: at most 34 bytes.
 fn push_what(line: &mut Line, what: What)
     requires { length line.old.bytes ≤ 90 }
     ensures text { line.new.bytes ≡ line.old.bytes ++ what_text what }
-    ensures short { length line.new.bytes ≤ length line.old.bytes + 30 }
+    ensures short { length line.new.bytes ≤ length line.old.bytes + 34 }
 {
     match what {
         What::NoFile => line.push_str("no file"),
         What::TooLong => line.push_str("too long"),
         What::BadNow => line.push_str("bad now"),
         What::BadHeader => line.push_str("bad header"),
-        What::BadBlock(block) => push_block(line, block),
+        What::BadDirectory(block) => push_numbered(line, "bad directory ", block),
+        What::BadBlock(block) => push_numbered(line, "bad block ", block),
         What::BadWidth => line.push_str("bad width"),
         What::BadTail => line.push_str("bad tail"),
         What::Length => line.push_str("length"),
     }
 }
 
-fn push_block(line: &mut Line, block: u64)
-    requires { length line.old.bytes ≤ 90 }
-    ensures text { line.new.bytes ≡ line.old.bytes ++ (codes "bad block " ++ decimal block) }
-    ensures short { length line.new.bytes ≤ length line.old.bytes + 30 }
+/// Appends a short text and the number of a block.
+fn push_numbered(line: &mut Line, what: &str, block: u64)
+    requires room { length line.old.bytes ≤ 90 }
+    requires few { length what.now ≤ 14 }
+    ensures text { line.new.bytes ≡ line.old.bytes ++ (what.now ++ decimal block) }
+    ensures short { length line.new.bytes ≤ length line.old.bytes + 34 }
 {
     let mut buffer = Buffer::new();
-    line.push_str("bad block ");
+    line.push_str(what);
     line.push_str(buffer.format(block));
 }
 

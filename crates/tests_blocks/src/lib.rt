@@ -21,6 +21,8 @@ mod round_trips;
 #[cfg(test)]
 mod runs;
 #[cfg(test)]
+mod tails;
+#[cfg(test)]
 mod transforms;
 #[cfg(test)]
 mod worked_blocks;

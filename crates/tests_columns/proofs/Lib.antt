@@ -1,1 +1,2 @@
 mod SquareLemmas
+mod FirstFiles

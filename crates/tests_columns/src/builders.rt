@@ -64,3 +64,46 @@ fn values_pushed_one_by_one_give_the_file_of_the_list(rt: HostRuntime) -> Result
     }
     Ok(())
 }
+
+// A builder that takes memory for these values ahead, in two steps, refuses none of them, and its column is that of the list. Less
+// than what is reserved changes nothing.
+fn expect_room(
+    rt: &impl Abort,
+    alloc: Global,
+    values: &[u64],
+    format: Format,
+) -> Result<(), AllocError>
+    requires few { length values.now ≤ max_rows }
+{
+    let column = encode_list(alloc, values, format)?;
+    let bytes = column.encoded().len() as u64;
+    let mut builder = Builder::new(alloc, format, column.static_width())?;
+    builder.reserve(bytes / 2, column.count())?;
+    builder.reserve(bytes, column.count() / 2)?;
+    let pushed = push_all(&mut builder, values);
+    assert!(rt; pushed.is_ok(), "{} values in {format:?}", values.len());
+    let Ok(built) = builder.finish() else {
+        panic!(rt; "the end of {} values in {format:?}", values.len());
+    };
+    assert!(rt;
+        built.encoded() == column.encoded(),
+        "{} values in {format:?}",
+        values.len()
+    );
+    Ok(())
+}
+
+#[test]
+fn a_builder_with_room_for_its_file_refuses_nothing(rt: HostRuntime) -> Result<(), Fail> {
+    for (shape, count) in [
+        (RISEN, 1025),
+        (Shape::FALLING, 2048),
+        (Shape::Scattered { bits: 13 }, 3071),
+    ] {
+        let values = shape.values(rt.alloc(), count)?;
+        for format in Format::ALL {
+            expect_room(&rt, rt.alloc(), values.as_slice(), format)?;
+        }
+    }
+    Ok(())
+}

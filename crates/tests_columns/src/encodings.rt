@@ -1,6 +1,6 @@
-//! Files whose lengths and bytes were worked out by hand.
+//! The lengths of files, and what their heads say, worked out by hand.
 
-use crate::files::{RISEN, column_of, file_of, head};
+use crate::files::{RISEN, column_of};
 use block_core::Format;
 use column_core::Column;
 use shapes::Shape;
@@ -11,33 +11,23 @@ use std::test::Fail;
 #[test]
 fn a_column_of_no_values_is_its_head_in_every_format(rt: HostRuntime) -> Result<(), Fail> {
     for (format, expected) in [
-        (Format::Plain, b"MCOL\x01\x00\0\0\0\0\0\0\0\0\0\0"),
-        (Format::Static, b"MCOL\x01\x01\0\0\0\0\0\0\0\0\0\0"),
-        (Format::Dynamic, b"MCOL\x01\x02\0\0\0\0\0\0\0\0\0\0"),
-        (Format::Runs, b"MCOL\x01\x03\0\0\0\0\0\0\0\0\0\0"),
-        (Format::Delta1Dynamic, b"MCOL\x01\x04\0\0\0\0\0\0\0\0\0\0"),
-        (Format::Delta16Dynamic, b"MCOL\x01\x05\0\0\0\0\0\0\0\0\0\0"),
+        (Format::Plain, b"MCOL\x02\x00\0\x40\0\0\0\0\0\0\0\0"),
+        (Format::Static, b"MCOL\x02\x01\0\0\0\0\0\0\0\0\0\0"),
+        (Format::Dynamic, b"MCOL\x02\x02\0\0\0\0\0\0\0\0\0\0"),
+        (Format::Runs, b"MCOL\x02\x03\0\0\0\0\0\0\0\0\0\0"),
+        (Format::Delta1Dynamic, b"MCOL\x02\x04\0\0\0\0\0\0\0\0\0\0"),
+        (Format::Delta16Dynamic, b"MCOL\x02\x05\0\0\0\0\0\0\0\0\0\0"),
         (
             Format::ReferenceDynamic,
-            b"MCOL\x01\x06\0\0\0\0\0\0\0\0\0\0",
+            b"MCOL\x02\x06\0\0\0\0\0\0\0\0\0\0",
         ),
-        (Format::Delta1Runs, b"MCOL\x01\x07\0\0\0\0\0\0\0\0\0\0"),
+        (Format::Delta1Runs, b"MCOL\x02\x07\0\0\0\0\0\0\0\0\0\0"),
     ] {
         let column = column_of(rt.alloc(), RISEN, 0, format)?;
         assert!(rt; column.encoded() == expected.as_slice(), "{format:?}");
         expect_column(&rt, &column, format, 0, 0, 16);
     }
     Ok(())
-}
-
-// The length of a file: the head, one or two whole blocks of these lengths, and the words of the other values.
-fn file_len(blocks: (u16, u16), count: u16) -> usize {
-    let whole = match count / 1024 {
-        0 => 0,
-        1 => blocks.0 as usize,
-        _ => blocks.0 as usize + blocks.1 as usize,
-    };
-    16 + whole + 8 * (count as usize % 1024)
 }
 
 // What a column says of itself. Its static width is 0 but in `static`, where at least one block is whole.
@@ -69,30 +59,62 @@ fn expect_column(
 
 // At i mod 5 a difference is 1 or 4 less than 0, also to the value 16 places before, so it has all 64 bits. The runs of
 // neighbours' differences are one 0, then four times 1 and one -4 in turn: with the 0 they are 410 from the value 0 on, and 411
-// from the value 4 on, which begins the second block. A falling block has 64 bits, its differences to the least value are 1023
-// to 0, and its neighbours' differences one 0 and then -1.
+// from the value 4 on, which begins the second block. The value 0 has width 0, the first 1,023 have 3 and take 384 bytes, 4 has 3
+// and takes 1 byte, and so does 3, which has 2.
 #[test]
-fn every_count_takes_the_bytes_that_were_worked_out(rt: HostRuntime) -> Result<(), Fail> {
-    for (shape, width, cascades) in [
-        (Shape::CYCLING, 3, [(393, 393), (4110, 4120)]),
-        (Shape::FALLING_FROM_MOST, 64, [(1289, 1289), (30, 30)]),
+fn every_count_of_cycling_values_takes_the_bytes_that_were_worked_out(
+    rt: HostRuntime,
+) -> Result<(), Fail> {
+    for (format, lengths) in [
+        (Format::Plain, [16, 24, 8200, 8208, 8216, 16_408]),
+        (Format::Static, [16, 16, 400, 400, 401, 785]),
+        (Format::Dynamic, [16, 16, 400, 409, 410, 803]),
+        (Format::Runs, [16, 16, 400, 10_266, 10_267, 20_517]),
+        (Format::Delta1Dynamic, [16, 16, 400, 8225, 8226, 16_435]),
+        (Format::Delta16Dynamic, [16, 16, 400, 8225, 8226, 16_435]),
+        (Format::ReferenceDynamic, [16, 16, 400, 417, 418, 819]),
+        (Format::Delta1Runs, [16, 16, 400, 4134, 4135, 8263]),
     ] {
-        let packed = 128 * u16::from(width);
-        for count in [0, 1, 1023, 1024, 1025, 2049u16] {
-            for (format, blocks) in [
-                (Format::Plain, (8192, 8192)),
-                (Format::Static, (packed, packed)),
-                (Format::Dynamic, (packed + 1, packed + 1)),
-                (Format::Runs, (10_242, 10_242)),
-                (Format::Delta1Dynamic, (8201, 8201)),
-                (Format::Delta16Dynamic, (8201, 8201)),
-                (Format::ReferenceDynamic, cascades[0]),
-                (Format::Delta1Runs, cascades[1]),
-            ] {
-                let column = column_of(rt.alloc(), shape, count, format)?;
-                expect_column(&rt, &column, format, count, width, file_len(blocks, count));
-            }
-        }
+        expect_lengths(&rt, rt.alloc(), Shape::CYCLING, 3, format, lengths)?;
+    }
+    Ok(())
+}
+
+// A falling block has 64 bits, its differences to the least value are 1023 to 0, and its neighbours' differences one 0 and then
+// -1. Each other value is a word.
+#[test]
+fn every_count_of_falling_values_takes_the_bytes_that_were_worked_out(
+    rt: HostRuntime,
+) -> Result<(), Fail> {
+    for (format, lengths) in [
+        (Format::Plain, [16, 24, 8200, 8208, 8216, 16_408]),
+        (Format::Static, [16, 24, 8200, 8208, 8216, 16_408]),
+        (Format::Dynamic, [16, 24, 8200, 8217, 8225, 16_426]),
+        (Format::Runs, [16, 24, 8200, 10_266, 10_274, 20_524]),
+        (Format::Delta1Dynamic, [16, 24, 8200, 8225, 8233, 16_442]),
+        (Format::Delta16Dynamic, [16, 24, 8200, 8225, 8233, 16_442]),
+        (Format::ReferenceDynamic, [16, 24, 8200, 1313, 1321, 2618]),
+        (Format::Delta1Runs, [16, 24, 8200, 54, 62, 100]),
+    ] {
+        let shape = Shape::FALLING_FROM_MOST;
+        expect_lengths(&rt, rt.alloc(), shape, 64, format, lengths)?;
+    }
+    Ok(())
+}
+
+// The lengths of the files of 0, 1, 1,023, 1,024, 1,025 and 2,049 values.
+fn expect_lengths(
+    rt: &impl Abort,
+    alloc: Global,
+    shape: Shape,
+    width: u8,
+    format: Format,
+    lengths: [usize; 6],
+) -> Result<(), AllocError> {
+    let counts = [0, 1, 1023, 1024, 1025, 2049];
+    for (count, len) in counts.iter().zip(lengths.iter()) {
+        let column = column_of(alloc, shape, *count, format)?;
+        expect_column(rt, &column, format, *count, width, *len);
     }
     Ok(())
 }
@@ -114,12 +136,12 @@ fn expect_len(
 #[test]
 fn each_format_takes_the_bytes_that_were_worked_out(rt: HostRuntime) -> Result<(), Fail> {
     for (shape, count, sizes) in [
-        (Shape::Constant(0), 1024, [8208, 16, 17, 28, 25, 25, 25, 36]),
-        (RISEN, 1025, [8216, 152, 153, 36, 33, 33, 33, 44]),
+        (Shape::Constant(0), 1024, [8208, 16, 25, 36, 33, 33, 33, 44]),
+        (RISEN, 1025, [8216, 152, 161, 44, 41, 41, 41, 52]),
         (
             Shape::FALLING,
             1024,
-            [8208, 1296, 1297, 10_258, 8217, 8217, 1305, 46],
+            [8208, 1296, 1305, 10_266, 8225, 8225, 1313, 54],
         ),
     ] {
         for (format, size) in Format::ALL.iter().zip(sizes.iter()) {
@@ -129,15 +151,16 @@ fn each_format_takes_the_bytes_that_were_worked_out(rt: HostRuntime) -> Result<(
     Ok(())
 }
 
-// The last value is in no whole block, so it does not count for the static width.
+// The last value is in no whole block, so it does not count for the static width. The values of the blocks do not count for the
+// tail's width, which is in the byte behind it.
 #[test]
-fn the_static_width_is_that_of_the_whole_blocks(rt: HostRuntime) -> Result<(), Fail> {
-    for (place, count, width) in [
-        (1024, 1024, 1),
-        (1024, 1025, 1),
-        (1023, 1024, 64),
-        (2047, 2047, 1),
-        (2047, 2048, 64),
+fn the_widths_are_those_of_the_whole_blocks_and_of_the_tail(rt: HostRuntime) -> Result<(), Fail> {
+    for (place, count, widths) in [
+        (1024, 1024, [1, 0]),
+        (1024, 1025, [1, 64]),
+        (1023, 1024, [64, 0]),
+        (2047, 2047, [1, 1]),
+        (2047, 2048, [64, 0]),
     ] {
         let shape = Shape::Turning {
             first: 1,
@@ -145,43 +168,11 @@ fn the_static_width_is_that_of_the_whole_blocks(rt: HostRuntime) -> Result<(), F
             times: place,
         };
         let column = column_of(rt.alloc(), shape, count, Format::Static)?;
-        assert_eq!(rt;
-            column.static_width(),
-            width,
+        assert!(rt;
+            column.static_width() == widths[0]
+                && column.encoded().get(6..8) == Some(widths.as_slice()),
             "{count} values, {place} ones"
         );
-    }
-    Ok(())
-}
-
-#[test]
-fn each_file_has_the_bytes_that_were_worked_out(rt: HostRuntime) -> Result<(), Fail> {
-    let ones = vec![in rt.alloc(); 0xff; 8064]?;
-    let widest = file_of(rt.alloc(), head(2, 0, 1024), &[0x3f], ones.as_slice(), b"")?;
-    for (format, shape, expected) in [
-        (
-            Format::Dynamic,
-            Shape::Constant(0),
-            b"MCOL\x01\x02\0\0\0\x04\0\0\0\0\0\0\0".as_slice(),
-        ),
-        (
-            Format::Dynamic,
-            Shape::Constant(u64::MAX >> 1),
-            widest.as_slice(),
-        ),
-        (
-            Format::Delta1Runs,
-            Shape::FALLING,
-            b"MCOL\x01\x07\0\0\0\x04\0\0\0\0\0\0\xff\x03\0\0\0\0\0\0\x02\0\0\0\0\0\0\0\0\0\x01\0\xff\xff\xff\xff\xff\xff\xff\xff\xff\x03",
-        ),
-        (
-            Format::ReferenceDynamic,
-            Shape::Constant(u64::MAX),
-            b"MCOL\x01\x06\0\0\0\x04\0\0\0\0\0\0\xff\xff\xff\xff\xff\xff\xff\xff\0",
-        ),
-    ] {
-        let column = column_of(rt.alloc(), shape, 1024, format)?;
-        assert!(rt; column.encoded() == expected, "{shape:?} in {format:?}");
     }
     Ok(())
 }

@@ -1,4 +1,4 @@
-//! The bytes of column files, and what a reader says of them.
+//! The bytes of column files in both versions, and what a reader says of them.
 
 ghost use Rattle.std.specs.Prelude.{◌≡◌, length, IfOk};
 
@@ -30,11 +30,39 @@ pub fn column_of(
 }
 
 /// The first 16 bytes of a file.
-pub fn head(tag: u8, width: u8, count: u64) -> [u8; 16] {
+pub fn head(tag: u8, width: u8, tail_width: u8, count: u64) -> [u8; 16] {
     let [a, b, c, d, e, f, g, h] = count.to_le_bytes();
     [
-        0x4d, 0x43, 0x4f, 0x4c, 1, tag, width, 0, a, b, c, d, e, f, g, h,
+        0x4d, 0x43, 0x4f, 0x4c, 2, tag, width, tail_width, a, b, c, d, e, f, g, h,
     ]
+}
+
+/// The first 16 bytes of a file of version 1, which says nothing of the tail's width.
+pub fn first_head(tag: u8, width: u8, count: u64) -> [u8; 16] {
+    let mut bytes = head(tag, width, 0, count);
+    bytes[4] = 1;
+    bytes
+}
+
+/// A directory of these entries.
+pub fn directory(alloc: Global, starts: &[u64]) -> Result<Vec<u8>, AllocError> {
+    let mut bytes = Vec::new(alloc);
+    for start in starts {
+        bytes.extend_from_slice(&start.to_le_bytes())?;
+    }
+    Ok(bytes)
+}
+
+/// The directory of as many blocks as so many values have, each of one length; none in `plain` and `static`.
+pub fn directory_of(alloc: Global, tag: u8, count: u64, len: usize) -> Result<Vec<u8>, AllocError> {
+    let blocks = if tag < 2 { 0 } else { count / 1024 };
+    let mut bytes = Vec::new(alloc);
+    let mut start = blocks.wrapping_mul(8).wrapping_add(16);
+    for _ in 0..blocks {
+        bytes.extend_from_slice(&start.to_le_bytes())?;
+        start = start.wrapping_add(len as u64);
+    }
+    Ok(bytes)
 }
 
 /// A head and three parts behind it.
@@ -49,6 +77,20 @@ pub fn file_of(
     bytes.extend_from_slice(first)?;
     bytes.extend_from_slice(second)?;
     bytes.extend_from_slice(third)?;
+    Ok(bytes)
+}
+
+/// The file of a column in version 1: a head, the blocks, and the other values as words.
+pub fn first_file_of(alloc: Global, column: &Column) -> Result<Vec<u8>, AllocError> {
+    let count = column.count();
+    let head = first_head(column.format().tag(), column.static_width(), count);
+    let mut bytes = Vec::from_slice(alloc, &head)?;
+    for block in 0..count / 1024 {
+        bytes.extend_from_slice(column.block_bytes(block))?;
+    }
+    for place in 0..count % 1024 {
+        bytes.extend_from_slice(&column.tail_value(place).to_le_bytes())?;
+    }
     Ok(bytes)
 }
 

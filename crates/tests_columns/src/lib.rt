@@ -9,9 +9,13 @@ mod builders;
 #[cfg(test)]
 mod counters;
 #[cfg(test)]
+mod directories;
+#[cfg(test)]
 mod emitters;
 #[cfg(test)]
 mod encodings;
+#[cfg(test)]
+mod expected;
 #[cfg(test)]
 mod faults;
 #[cfg(test)]
@@ -19,8 +23,16 @@ mod files;
 #[cfg(test)]
 mod generic;
 #[cfg(test)]
+mod heads;
+#[cfg(test)]
 mod prefixes;
 #[cfg(test)]
 mod reading;
 #[cfg(test)]
 mod sources;
+#[cfg(test)]
+mod tails;
+#[cfg(test)]
+mod versions;
+#[cfg(test)]
+mod worked_files;

@@ -1,25 +1,40 @@
-//! Files that are cut, or have a byte too many.
+//! Files that are cut, and files with a byte too many, in both versions.
 
-use crate::files::{column_of, fault_of};
+use crate::expected::expect_fault;
+use crate::files::{column_of, fault_of, first_file_of};
 use block_core::Format;
+use column_core::Column;
 use column_file::ColumnError;
 use shapes::Shape;
 use std::alloc::Global;
 use std::process::Abort;
 use std::test::Fail;
 
-// Where the parts of a file of two blocks end.
+// Where the parts of a file of two blocks end: the first entry of its directory, if it has one, and the blocks.
 #[derive(Clone, Copy)]
 struct Borders {
+    entry: usize,
     first: usize,
     second: usize,
 }
 
 impl Borders {
-    // The fault of so many bytes, fewer than the file has.
+    // Those of a file whose blocks have these lengths.
+    fn of(has_directory: bool, first: u16, second: u16) -> Borders {
+        let (entry, front) = if has_directory { (24, 32) } else { (16, 16) };
+        Borders {
+            entry,
+            first: front + first as usize,
+            second: front + first as usize + second as usize,
+        }
+    }
+
+    // The fault of so many bytes, fewer than the file has. Without the second entry there is no first block.
     fn fault(self, len: usize) -> ColumnError {
         if len < 16 {
             ColumnError::BadHeader
+        } else if len < self.entry {
+            ColumnError::BadDirectory { block: 0 }
         } else if len < self.first {
             ColumnError::BadBlock { block: 0 }
         } else if len < self.second {
@@ -29,14 +44,18 @@ impl Borders {
         }
     }
 
-    // Whether a file is cut there: near the ends of the parts, and now and then between them.
+    // Whether a file is cut there: a short one at each byte, and a long one near the ends of its parts and now and then between.
     fn is_tried(self, len: usize) -> bool {
-        len < 27 || len % 97 == 0 || len.abs_diff(self.first) < 12 || len.abs_diff(self.second) < 12
+        self.second < 1000
+            || len < 43
+            || len % 97 == 0
+            || len.abs_diff(self.first) < 12
+            || len.abs_diff(self.second) < 12
     }
 }
 
 // A file that is cut is refused for the part that is cut.
-fn expect_faults(
+fn expect_cut(
     rt: &impl Abort,
     alloc: Global,
     bytes: &[u8],
@@ -45,34 +64,38 @@ fn expect_faults(
 ) -> Result<(), ColumnError> {
     for len in 0..bytes.len() {
         if borders.is_tried(len) {
-            assert_eq!(rt;
-                fault_of(alloc, &bytes[..len])?,
-                Some(borders.fault(len)),
-                "{format:?} cut at {len}"
+            let fault = fault_of(alloc, &bytes[..len])?;
+            assert!(rt;
+                fault == Some(borders.fault(len)),
+                "{format:?}, {fault:?} when cut at {len}"
             );
         }
     }
-    Ok(())
+    expect_fault(rt, alloc, bytes, None)
 }
 
-// The file of 2,049 values, whose two blocks have these lengths.
-fn expect_cut(
+// The file of version 1, and the file. Eleven values of width 3 have 5 bytes, and as words 88.
+fn expect_both_cut(
     rt: &impl Abort,
     alloc: Global,
     format: Format,
     first: u16,
     second: u16,
 ) -> Result<(), ColumnError> {
-    let column = column_of(alloc, Shape::CYCLING, 2049, format)?;
-    let borders = Borders {
-        first: 16 + first as usize,
-        second: 16 + first as usize + second as usize,
-    };
-    assert_eq!(rt; column.encoded().len(), borders.second + 8, "{format:?}");
-    expect_faults(rt, alloc, column.encoded(), borders, format)
+    let column = column_of(alloc, Shape::CYCLING, 2059, format)?;
+    let old = first_file_of(alloc, &column)?;
+    let borders = Borders::of(false, first, second);
+    let tail = old.as_slice().get(borders.second..).unwrap_or(b"");
+    assert!(rt; tail.len() == 88, "{format:?}, version 1");
+    expect_cut(rt, alloc, old.as_slice(), borders, format)?;
+    let borders = Borders::of(format.tag() >= 2, first, second);
+    let tail_len = if format == Format::Plain { 88 } else { 5 };
+    let tail = column.encoded().get(borders.second..).unwrap_or(b"");
+    assert!(rt; tail.len() == tail_len, "{format:?}");
+    expect_cut(rt, alloc, column.encoded(), borders, format)
 }
 
-// The blocks have the lengths that `encodings` tells of, and 2,048 mod 5 is the tail.
+// The blocks have the lengths that `encodings` tells of.
 #[test]
 fn a_file_that_is_cut_is_refused_for_the_part_that_is_cut(rt: HostRuntime) -> Result<(), Fail> {
     for (format, first, second) in [
@@ -85,43 +108,34 @@ fn a_file_that_is_cut_is_refused_for_the_part_that_is_cut(rt: HostRuntime) -> Re
         (Format::ReferenceDynamic, 393, 393),
         (Format::Delta1Runs, 4110, 4120),
     ] {
-        expect_cut(&rt, rt.alloc(), format, first, second)?;
+        expect_both_cut(&rt, rt.alloc(), format, first, second)?;
     }
     Ok(())
 }
 
 // The file with a byte behind it.
-fn expect_byte_more(rt: &impl Abort, alloc: Global, encoded: &[u8], byte: u8) -> Result<(), Fail> {
-    let mut bytes = Vec::from_slice(alloc, encoded)?;
-    bytes.push(byte)?;
-    let fault = fault_of(alloc, bytes.as_slice())?;
-    assert_eq!(rt;
-        fault,
-        Some(ColumnError::BadTail),
-        "{byte} behind {} bytes",
-        encoded.len()
-    );
-    Ok(())
-}
-
-fn expect_bytes_more(
-    rt: &impl Abort,
-    alloc: Global,
-    count: u16,
-    format: Format,
-) -> Result<(), Fail> {
-    let column = column_of(alloc, Shape::CYCLING, count, format)?;
+fn expect_bytes_more(rt: &impl Abort, alloc: Global, file: &[u8]) -> Result<(), ColumnError> {
     for byte in [0, 1, 0xff] {
-        expect_byte_more(rt, alloc, column.encoded(), byte)?;
+        let mut bytes = Vec::from_slice(alloc, file)?;
+        bytes.extend_from_slice(&[byte])?;
+        expect_fault(rt, alloc, bytes.as_slice(), Some(ColumnError::BadTail))?;
     }
     Ok(())
 }
 
+// So has each of the column's files.
+fn expect_both_longer(rt: &impl Abort, alloc: Global, column: &Column) -> Result<(), ColumnError> {
+    let old = first_file_of(alloc, column)?;
+    expect_bytes_more(rt, alloc, old.as_slice())?;
+    expect_bytes_more(rt, alloc, column.encoded())
+}
+
 #[test]
 fn a_file_with_a_byte_more_is_refused_for_its_tail(rt: HostRuntime) -> Result<(), Fail> {
-    for count in [0, 1, 1024, 2049u16] {
+    for count in [0, 1, 5, 1024, 2049u16] {
         for format in Format::ALL {
-            expect_bytes_more(&rt, rt.alloc(), count, format)?;
+            let column = column_of(rt.alloc(), Shape::CYCLING, count, format)?;
+            expect_both_longer(&rt, rt.alloc(), &column)?;
         }
     }
     Ok(())

@@ -1,6 +1,8 @@
 //! Files that are read back.
 
-use crate::files::{column_of, fault_of, file_of, head, packed, read};
+ghost use Rattle.std.specs.Prelude.{◌≡◌, IfOk};
+
+use crate::files::{column_of, directory_of, file_of, first_file_of, head, read};
 use crate::generic::blocks_of;
 use block_core::Format;
 use column_core::{Column, Cursor, encode_list};
@@ -9,6 +11,7 @@ use shapes::Shape;
 use std::alloc::{AllocError, Global};
 use std::process::Abort;
 use std::test::Fail;
+use stream_core::List;
 
 // Whether there are as many values, and those after the last whole block are the list's.
 fn has_tail(column: &Column, values: &[u64]) -> bool {
@@ -24,7 +27,8 @@ fn has_tail(column: &Column, values: &[u64]) -> bool {
     true
 }
 
-// The file of these values is a column of the same head, bytes, blocks and values.
+// The files of these values are a column of the same head, bytes, blocks and values. In version 1 the tail's words are in the
+// file, so that a tail of other values would be found there.
 fn expect_read_back(
     rt: &impl Abort,
     alloc: Global,
@@ -34,21 +38,24 @@ fn expect_read_back(
 ) -> Result<(), ColumnError> {
     let values = shape.values(alloc, count as usize)?;
     let column = encode_list(alloc, values.as_slice(), format)?;
-    let found = read(alloc, column.encoded())?;
-    let head = (found.format(), found.count(), found.static_width());
-    let blocks = blocks_of(alloc, &mut Cursor::<8>::new(&found))?;
-    assert!(rt;
-        head == (format, u64::from(count), column.static_width())
-            && found.encoded() == column.encoded()
-            && blocks == values
-            && has_tail(&found, values.as_slice()),
-        "{count} values of {shape:?} in {format:?}"
-    );
+    let first_file = first_file_of(alloc, &column)?;
+    for (version, bytes) in [(1, first_file.as_slice()), (2, column.encoded())] {
+        let found = read(alloc, bytes)?;
+        let head = (found.format(), found.count(), found.static_width());
+        let blocks = blocks_of(alloc, &mut Cursor::<8>::new(&found))?;
+        assert!(rt;
+            head == (format, u64::from(count), column.static_width())
+                && found.encoded() == column.encoded()
+                && blocks == values
+                && has_tail(&found, values.as_slice()),
+            "{count} values of {shape:?} in {format:?}, version {version}"
+        );
+    }
     Ok(())
 }
 
 #[test]
-fn every_file_is_accepted_and_gives_its_column_back(rt: HostRuntime) -> Result<(), Fail> {
+fn files_of_both_versions_are_accepted_and_give_their_column(rt: HostRuntime) -> Result<(), Fail> {
     for shape in [
         Shape::CYCLING,
         Shape::FALLING_FROM_MOST,
@@ -63,51 +70,61 @@ fn every_file_is_accepted_and_gives_its_column_back(rt: HostRuntime) -> Result<(
     Ok(())
 }
 
-// The encodings of the blocks, with the head before them and the tail's words behind them, are the file.
+// The encodings of the blocks, with the head and the directory before them and the packed values behind them, are the file. Three
+// falling values have 64 bits each.
 fn expect_parts(rt: &impl Abort, alloc: Global, format: Format) -> Result<(), AllocError> {
-    let column = column_of(alloc, Shape::CYCLING, 2049, format)?;
+    let column = column_of(alloc, Shape::FALLING_FROM_MOST, 2051, format)?;
+    let tag = format.tag();
+    let first = column.block_bytes(0);
+    let mut blocks = Vec::from_slice(alloc, first)?;
+    blocks.extend_from_slice(column.block_bytes(1))?;
     let bytes = file_of(
         alloc,
-        head(format.tag(), column.static_width(), 2049),
-        column.block_bytes(0),
-        column.block_bytes(1),
-        b"\x03\0\0\0\0\0\0\0",
+        head(tag, column.static_width(), 64, 2051),
+        directory_of(alloc, tag, 2051, first.len())?.as_slice(),
+        blocks.as_slice(),
+        b"\xff\xf7\xff\xff\xff\xff\xff\xff\xfe\xf7\xff\xff\xff\xff\xff\xff\xfd\xf7\xff\xff\xff\xff\xff\xff",
     )?;
     assert!(rt; bytes.as_slice() == column.encoded(), "{format:?}");
     Ok(())
 }
 
 #[test]
-fn the_blocks_of_a_file_stand_between_its_head_and_its_tail(rt: HostRuntime) -> Result<(), Fail> {
+fn the_parts_of_a_file_stand_one_behind_the_other(rt: HostRuntime) -> Result<(), Fail> {
     for format in Format::ALL {
         expect_parts(&rt, rt.alloc(), format)?;
     }
     Ok(())
 }
 
-// One value in `static`, 1,024 times 3 at width 2, two blocks whose widths differ, and a block of zeros with a value behind it.
+// The column whose file is that of a column. Its caller knows that, so that nothing is checked.
+fn taken(alloc: Global, column: &Column) -> Result<Column, AllocError>
+    ensures { IfOk result (λ taken. taken ≡ column.now) }
+{
+    let bytes = List::from_vec(Vec::from_slice(alloc, column.encoded())?);
+    Ok(Column::of_file(bytes))
+}
+
+// The same, by the call that is told where the blocks start.
+fn adopted(alloc: Global, column: &Column) -> Result<Column, AllocError>
+    ensures { IfOk result (λ taken. taken ≡ column.now) }
+{
+    let bytes = List::from_vec(Vec::from_slice(alloc, column.encoded())?);
+    Ok(Column::adopt(bytes, List::from_vec(Vec::new(alloc))))
+}
+
 #[test]
-fn files_that_were_encoded_by_hand_are_accepted(rt: HostRuntime) -> Result<(), Fail> {
-    let threes = packed(rt.alloc(), 2, 3)?;
-    let most = packed(rt.alloc(), 11, 2047)?;
-    for (head, front, packed, word) in [
-        (
-            head(1, 0, 1),
-            b"".as_slice(),
-            b"".as_slice(),
-            b"\x07\0\0\0\0\0\0\0".as_slice(),
-        ),
-        (head(1, 2, 1024), b"", threes.as_slice(), b""),
-        (head(2, 0, 2048), b"\0\x0b", most.as_slice(), b""),
-        (
-            head(7, 0, 1025),
-            b"\0\0\0\0\0\0\0\0\x01\0\0\0\0\0\0\0\0\0\0\x04",
-            b"",
-            b"\x07\0\0\0\0\0\0\0",
-        ),
-    ] {
-        let bytes = file_of(rt.alloc(), head, front, packed, word)?;
-        assert_eq!(rt; fault_of(rt.alloc(), bytes.as_slice())?, None, "{head:?}");
+fn a_file_that_is_known_to_be_one_is_taken_as_its_column(rt: HostRuntime) -> Result<(), Fail> {
+    for format in Format::ALL {
+        let column = column_of(rt.alloc(), Shape::CYCLING, 2049, format)?;
+        for again in [taken(rt.alloc(), &column)?, adopted(rt.alloc(), &column)?] {
+            let head = (again.format(), again.count(), again.static_width());
+            assert!(rt;
+                head == (format, 2049, column.static_width())
+                    && again.encoded() == column.encoded(),
+                "{format:?}"
+            );
+        }
     }
     Ok(())
 }

@@ -55,10 +55,11 @@ impl Order {
 }
 
 // The shapes of the lists, at lengths with and without a tail.
-const LISTS: [(Shape, usize); 7] = [
+const LISTS: [(Shape, usize); 8] = [
     (Shape::CYCLING, 1),
     (Shape::CYCLING, 2049),
     (Shape::Constant(u64::MAX), 1024),
+    (Shape::Constant(u64::MAX >> 1), 1024),
     (Shape::FALLING, 2048),
     (Shape::Scattered { bits: 13 }, 3071),
     (Shape::Scattered { bits: 64 }, 2050),
@@ -197,7 +198,7 @@ fn values_stay_the_same_when_their_block_is_opened(rt: HostRuntime) -> Result<()
 
 #[test]
 fn the_longest_column_of_zeros_is_sixteen_bytes(rt: HostRuntime) -> Result<(), Fail> {
-    let column = read(rt.alloc(), &head(1, 0, 268_435_456))?;
+    let column = read(rt.alloc(), &head(1, 0, 0, 268_435_456))?;
     let head = (column.format(), column.count(), column.static_width());
     assert!(rt; head == (Format::Static, 268_435_456, 0), "the head");
     let lengths = (column.encoded().len(), column.block_bytes(262_143).len());

@@ -1,6 +1,8 @@
 //! Queries that have an answer.
 
-use crate::worlds::{TEXT, answers, column_bytes, example_with, expect, now_file};
+use crate::worlds::{
+    TEXT, answers, column_bytes, example_with, expect, first_bytes, joined, now_file,
+};
 use block_core::Format;
 use std::alloc::{AllocError, Global};
 use std::process::Abort;
@@ -84,19 +86,67 @@ fn an_empty_table_and_the_other_slot_are_read(rt: HostRuntime) -> Result<(), Fai
     Ok(())
 }
 
-/// The example's sum is the same where `a` is of this format.
+/// The example's sum is the same over files of both versions in this format.
 fn expect_sum_in(rt: &impl Abort, alloc: Global, format: Format) -> Result<(), AllocError> {
+    let old_a = first_bytes(alloc, &[10, 20, 30, 40, 50], format)?;
+    let old_b = first_bytes(alloc, &[2, 3, 5, 7, 8], format)?;
     let a = column_bytes(alloc, &[10, 20, 30, 40, 50], format)?;
-    let mut store = example_with(alloc, &[("t.a.a.col", a.as_slice())])?;
-    let answered = answers(alloc, &mut store, TEXT, 0, "90\n")?;
-    assert!(rt; answered, "{format:?}");
+    let b = column_bytes(alloc, &[2, 3, 5, 7, 8], format)?;
+    for (case, a, b) in [
+        ("both of version 2", &a, &b),
+        ("both of version 1", &old_a, &old_b),
+        ("a of version 1", &old_a, &b),
+        ("b of version 1", &a, &old_b),
+    ] {
+        let files = [("t.a.a.col", a.as_slice()), ("t.a.b.col", b.as_slice())];
+        let mut store = example_with(alloc, &files)?;
+        let answered = answers(alloc, &mut store, TEXT, 0, "90\n")?;
+        assert!(rt; answered, "{format:?}, {case}");
+    }
     Ok(())
 }
 
 #[test]
-fn columns_of_every_format_give_the_same_answer(rt: HostRuntime) -> Result<(), Fail> {
+fn columns_of_every_format_and_version_give_the_same_answer(rt: HostRuntime) -> Result<(), Fail> {
     for format in Format::ALL {
         expect_sum_in(&rt, rt.alloc(), format)?;
+    }
+    Ok(())
+}
+
+/// 2,051 rows: 1,024 times 0, 1,024 times 1, and then 5, 0, 7, in the format `dynamic`. In version 1 there is no directory, and
+/// the tail is words.
+#[test]
+fn whole_blocks_of_both_versions_are_summed(rt: HostRuntime) -> Result<(), Fail> {
+    let alloc = rt.alloc();
+    let ones = [0xff; 128];
+    let first = joined(
+        alloc,
+        b"MCOL\x01\x02\0\0\x03\x08\0\0\0\0\0\0\0\x01",
+        &ones,
+        b"\x05\0\0\0\0\0\0\0\0\0\0\0\0\0\0\0\x07\0\0\0\0\0\0\0",
+    )?;
+    let second = joined(
+        alloc,
+        b"MCOL\x02\x02\0\x03\x03\x08\0\0\0\0\0\0\x20\0\0\0\0\0\0\0\x21\0\0\0\0\0\0\0\0\x01",
+        &ones,
+        b"\xc5\x01",
+    )?;
+    for (case, a, b) in [
+        ("both of version 2", &second, &second),
+        ("both of version 1", &first, &first),
+        ("a of version 1", &first, &second),
+        ("b of version 1", &second, &first),
+    ] {
+        let files = [
+            ("t.now", b"MNOWa\x03\x08\0\0\0\0\0\0".as_slice()),
+            ("t.a.a.col", a.as_slice()),
+            ("t.a.b.col", b.as_slice()),
+        ];
+        let mut store = example_with(alloc, &files)?;
+        let text = "select sum(a) from t where b between 1 and 5";
+        let answered = answers(alloc, &mut store, text, 0, "1029\n")?;
+        assert!(rt; answered, "{case}");
     }
     Ok(())
 }

@@ -22,6 +22,30 @@ pub fn column_bytes(alloc: Global, values: &[u64], format: Format) -> Result<Vec
     Vec::from_slice(alloc, column.encoded())
 }
 
+/// The bytes of the column file of version 1 of these values, fewer than a block: a head, and a word for each value.
+pub fn first_bytes(alloc: Global, values: &[u64], format: Format) -> Result<Vec<u8>, AllocError> {
+    let mut bytes = Vec::from_slice(alloc, b"MCOL\x01")?;
+    bytes.extend_from_slice(&[format.tag(), 0, 0])?;
+    bytes.extend_from_slice(&(values.len() as u64).to_le_bytes())?;
+    for value in values {
+        bytes.extend_from_slice(&value.to_le_bytes())?;
+    }
+    Ok(bytes)
+}
+
+/// The bytes of three parts, one after the other.
+pub fn joined(
+    alloc: Global,
+    first: &[u8],
+    second: &[u8],
+    third: &[u8],
+) -> Result<Vec<u8>, AllocError> {
+    let mut bytes = Vec::from_slice(alloc, first)?;
+    bytes.extend_from_slice(second)?;
+    bytes.extend_from_slice(third)?;
+    Ok(bytes)
+}
+
 /// A list of numbers.
 pub fn numbers(alloc: Global, numbers: &[u64]) -> Result<List<u64>, AllocError> {
     Ok(List::from_vec(Vec::from_slice(alloc, numbers)?))

@@ -4,7 +4,7 @@ use crate::commands::printed;
 use std::io;
 
 /// A case, and the text of its query.
-const QUERIES: [(&str, &str); 19] = [
+const QUERIES: [(&str, &str); 21] = [
     ("a sum of all rows", "select sum(a) from t"),
     (
         "a sum of some rows",
@@ -27,6 +27,10 @@ const QUERIES: [(&str, &str); 19] = [
         "a column in reference+dynamic and one in delta1+runs",
         "select sum(price) from sales where day between 20050 and 20059",
     ),
+    (
+        "a file of version 1 and one of version 2",
+        "select sum(a) from mixed where b between 3 and 7",
+    ),
     ("no text", ""),
     ("a text that is no query", "select sum(a) from t;"),
     ("no file of the table", "select sum(a) from u"),
@@ -39,6 +43,7 @@ const QUERIES: [(&str, &str); 19] = [
     ("a file of one byte too few", "select sum(a) from shorter"),
     ("a file without a byte", "select sum(a) from hollow"),
     ("a file that is cut off", "select sum(c) from damaged"),
+    ("a file with a wrong directory", "select sum(a) from astray"),
     ("a sum that is too wide", "select sum(a) from wide"),
     (
         "a folder in place of the now file",

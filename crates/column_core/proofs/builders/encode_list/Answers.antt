@@ -1,14 +1,14 @@
-use Rattle.std.proofs.Common.{◌≡◌, ◌+◌, ◌-◌, ◌*◌, ◌/◌, ◌++◌, ℕ, List, length, take, drop, sym, ap, ap₂, ◌∙◌, subst, arith}
+use Rattle.std.proofs.Common.{◌≡◌, ◌+◌, ◌-◌, ◌*◌, ◌/◌, ◌++◌, ℕ, List, length, take, drop, IfOk, sym, ap, ap₂, ◌∙◌, subst, arith}
 use Rattle.std.proofs.lemmas.List.{take-append-drop, take_all, length-drop}
 use Rattle.definitions_blocks.specs.Blocks.{block_values}
 use Rattle.definitions_blocks.specs.Formats.{FitsFormat}
 use Rattle.definitions_columns.specs.ColumnFiles.{static_width_of}
 use Rattle.block_core.specs.declared.formats.Format.{Format}
 use Rattle.block_core.specs.Formats.{format_of}
-use Rattle.column_core.specs.Columns.{Encoding, encoding_of, reserve, shape}
+use Rattle.column_core.specs.Columns.{Shape, Encoding, encoding_of, reserve, shape}
 use Rattle.definitions_columns.proofs.WidthLaws.{static_width_of-block}
 use Rattle.column_core.proofs.BuilderLemmas.{static_width_of-whole}
-use Rattle.definitions_columns.proofs.PlaceLaws.{take_blocks}
+use Rattle.column_core.proofs.BlockAtLemmas.{take_blocks}
 use Rattle.column_core.proofs.builders.encode_list.Goals as goal
 
 pub push_block-requires-clause-fits : goal.push_block-requires-clause-fits
@@ -36,24 +36,14 @@ loop-number-preserved c =
       full = ap length block ∙ ap length (sym block) ∙ omega (arith, c.fill_from.ensures.full.whole);
     }
 
--- what is encoded at the end
-ended : (format : Format) (width number : ℕ) (values : List ℕ) (before result : Encoding) → before ≡ encoding_of format width (reserve 0 0) (take (number * block_values) values) → number ≡ length values / block_values
-    → result ≡ encoding_of before.format before.width before.reserve (before.values ++ take (length values - length values / 1024 * 1024) (drop (length values / 1024 * 1024) values)) → result ≡ encoding_of format width (reserve 0 0) values
-ended format width number values before result looped all is =
-    let at = length values / 1024 * 1024 in
-    let rest : take (length values - at) (drop at values) ≡ drop at values = take_all (length values - at) (drop at values) (omega (arith, length-drop at values)) in
-    let front : take (number * block_values) values ≡ take at values = ap (λ n. take (n * block_values) values) all in
-    is ∙ ap (λ (e : Encoding). encoding_of e.format e.width e.reserve (e.values ++ take (length values - at) (drop at values))) looped
-    ∙ ap (encoding_of format width (reserve 0 0)) (ap₂ (λ (a : List ℕ) (b : List ℕ). a ++ b) front rest ∙ take-append-drop at values)
-
-pub from_encoded-requires : goal.from_encoded-requires
-from_encoded-requires c =
-    let width : c.least_width-width.result ≡ static_width_of (format_of c.args.format) c.args.values.now =
-    c.least_width-width.ensures.width ∙ static_width_of-whole (format_of c.args.format) c.args.values.now in
-    let all = ended c.args.format c.least_width-width.result c.loop-number.number c.args.values.now c.loop-number.encoded c.push_tail.new.self c.loop-number.invariant.encoded (omega arith) c.in_ok-push_tail.ensures.ok in
-    subst (λ (e : Encoding). e.width ≡ static_width_of (format_of e.format) e.values) (sym all) width
-
 pub returns : goal.returns
 returns c =
-    let all = ended c.args.format c.least_width-width.result c.loop-number.number c.args.values.now c.loop-number.encoded c.push_tail.new.self c.loop-number.invariant.encoded (omega arith) c.in_ok-push_tail.ensures.ok in
-    c.from_encoded.ensures ∙ ap (λ (e : Encoding). shape e.format e.values) all
+    let values = c.args.values.now in
+    let at = length values / 1024 * 1024 in
+    let same = c.loop-number.invariant.encoded in
+    let front : take (c.loop-number.number * block_values) values ≡ take at values = ap (λ n. take n values) (let e : c.loop-number.number * block_values ≡ at = omega (arith, c.loop-number-test.false) in e) in
+    let all : c.loop-number.encoded.values ++ c.rest_from.result.now ≡ values =
+    ap₂ (λ (a b : List ℕ). a ++ b) (ap (λ (e : Encoding). e.values) same ∙ front) c.rest_from.ensures ∙ take-append-drop at values in
+    let seen : shape c.loop-number.encoded.format (c.loop-number.encoded.values ++ c.rest_from.result.now) ≡ shape c.args.format values =
+    ap₂ (λ (f : Format) (l : List ℕ). shape f l) (ap (λ (e : Encoding). e.format) same) all in
+    subst (λ (s : Shape). IfOk c.finish.result (λ column. column ≡ s)) seen c.finish.ensures.ok

@@ -1,6 +1,6 @@
-use Rattle.std.proofs.Common.{◌≡◌, ◌+◌, ◌*◌, ◌++◌, List, ℕ, take, ap, ap₂, ◌∙◌, arith}
+use Rattle.std.proofs.Common.{◌≡◌, ◌+◌, ◌*◌, ◌++◌, List, ℕ, take, sym, ap, ap₂, ◌∙◌, arith}
+use Rattle.std.proofs.Math.Seq.{take-add}
 use Rattle.definitions_blocks.specs.Blocks.{block_values, block_at}
-use Rattle.definitions_columns.proofs.PlaceLaws.{take_blocks}
 use Rattle.engine_tool.proofs.decoding.decoded.Goals as goal
 
 pub loop-number-preserved : goal.loop-number-preserved
@@ -13,6 +13,6 @@ loop-number-preserved c =
     record {
       decoded =
           c.in_ok-extend_from_slice.ensures.items ∙ ap₂ (λ (a : List ℕ) (b : List ℕ). a ++ b) c.loop-number.invariant.decoded block
-          ∙ take_blocks at block_values values ∙ ap (λ n. take n values) next;
+          ∙ sym (take-add at block_values values) ∙ ap (λ n. take n values) next;
       source = c.block.ensures.list ∙ c.loop-number.invariant.source;
     }

@@ -1,4 +1,4 @@
-use Rattle.std.proofs.Common.{suc, ◌<◌, subst, arith}
+use Rattle.std.proofs.Common.{suc, subst, arith}
 use Rattle.std.proofs.lemmas.Bool.{false≢true}
 use Rattle.tests_columns.specs.Squares.{squares}
 use Rattle.tests_columns.proofs.SquareLemmas.{length-squares, take-squares, holds_of_first, on_err}

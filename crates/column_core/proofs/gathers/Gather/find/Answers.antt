@@ -1,5 +1,5 @@
 use Rattle.std.proofs.Common.{◌∙◌}
-use Rattle.column_core.proofs.EncodedLemmas.{block_at-index}
+use Rattle.column_core.proofs.BlockAtLemmas.{block_at-index}
 use Rattle.column_core.proofs.gathers.Gather.find.Goals as goal
 
 pub returns-then-number-whole_blocks-clause-value : goal.returns-then-number-whole_blocks-clause-value

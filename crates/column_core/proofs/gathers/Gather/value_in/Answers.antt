@@ -1,6 +1,6 @@
 use Rattle.std.proofs.Common.{◌≡◌, ◌/◌, ◌<◌, length, ap, ◌∙◌, arith}
 use Rattle.definitions_blocks.specs.Blocks.{block_values}
-use Rattle.column_core.proofs.EncodedLemmas.{length-block_at}
+use Rattle.column_core.proofs.BlockAtLemmas.{length-block_at}
 use Rattle.column_core.proofs.gathers.Gather.value_in.Goals as goal
 
 pub bounds-as_slice-place : goal.bounds-as_slice-place

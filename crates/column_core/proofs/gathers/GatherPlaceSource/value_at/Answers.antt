@@ -1,7 +1,7 @@
 use Rattle.std.proofs.Common.{◌≡◌, ◌*◌, ◌/◌, ◌%◌, ◌<◌, ℕ, List, get_or, length, drop, ap, ap₂, ◌∙◌, arith}
 use Rattle.std.proofs.lemmas.List.{length-take, length-drop}
 use Rattle.definitions_blocks.specs.Blocks.{block_values, block_at}
-use Rattle.column_core.proofs.EncodedLemmas.{block_at-index}
+use Rattle.column_core.proofs.BlockAtLemmas.{block_at-index}
 use Rattle.column_core.proofs.gathers.GatherPlaceSource.value_at.Goals as goal
 
 -- the block that is held

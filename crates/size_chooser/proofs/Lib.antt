@@ -1,0 +1,9 @@
+pub mod FrontLemmas
+pub mod SurveyLemmas
+pub mod BitLemmas
+pub mod SumLemmas
+pub mod MeasureLemmas
+pub mod TallyLemmas
+pub mod ProfileLemmas
+pub mod LeastLemmas
+pub mod FormatSumLemmas

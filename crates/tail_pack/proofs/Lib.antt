@@ -1,0 +1,4 @@
+pub mod Windows
+pub mod LastBits
+pub mod WordTotals
+pub mod BegunTails
