@@ -43,3 +43,15 @@ now_file_name table = table ++ codes ".now"
 -- `TABLE.SLOT.COLUMN.col`
 abbrev pub column_file_name : List ℕ → ℕ → List ℕ → List ℕ
 column_file_name table slot column = table ++ codes "." ++ (slot ∷ []) ++ codes "." ++ column ++ codes ".col"
+
+-- `TABLE.SLOT.COLUMN.dic`
+abbrev pub dictionary_file_name : List ℕ → ℕ → List ℕ → List ℕ
+dictionary_file_name table slot column = table ++ codes "." ++ (slot ∷ []) ++ codes "." ++ column ++ codes ".dic"
+
+-- the file of the schema
+abbrev pub schema_file_name : List ℕ
+schema_file_name = codes "schema.toml"
+
+-- `NAME.strategy`
+abbrev pub strategy_file_name : List ℕ → List ℕ
+strategy_file_name name = name ++ codes ".strategy"

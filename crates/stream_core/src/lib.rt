@@ -15,7 +15,7 @@ mod writing;
 
 pub use lists::{Bytes, List};
 pub use memory::{MemSink, MemSource, MemStore};
-pub use names::{FileName, Name};
+pub use names::{FileName, Name, is_keyword, is_name};
 pub use reading::{ReadError, Source, read_all};
 pub use storing::{LoadError, SaveError, Store};
 pub use writing::{Sink, write_all};
