@@ -1,0 +1,2 @@
+pub mod ComputedLaws
+pub mod OutcomeLaws
