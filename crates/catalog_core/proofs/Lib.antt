@@ -1,0 +1,13 @@
+pub mod MemberLemmas
+pub mod NameLemmas
+pub mod TextLemmas
+pub mod DictionaryFileLemmas
+pub mod DictionaryLaws
+pub mod DictionaryReadLemmas
+pub mod DictionarySearchLemmas
+pub mod DictionaryMakingLemmas
+pub mod LawfulLemmas
+pub mod ColumnLemmas
+pub mod SchemaLaws
+pub mod SchemaExamples
+pub mod DictionaryExamples

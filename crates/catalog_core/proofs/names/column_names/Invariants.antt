@@ -1,0 +1,7 @@
+use Rattle.std.proofs.Common.{◌≡◌, map, take}
+use Rattle.catalog_core.specs.Schemas.{column_names}
+use Rattle.catalog_core.proofs.names.column_names.Given as goal
+
+-- the names so far
+abbrev pub invariant-loop-table : goal.invariant-loop-table
+invariant-loop-table l = map (λ name. name.now) l.names.items ≡ column_names (take l.table-index l.tables)

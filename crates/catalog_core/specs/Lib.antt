@@ -1,0 +1,12 @@
+pub mod Texts
+pub mod Schemas
+pub mod LawfulSchemas
+pub mod Owns
+pub mod Columns
+pub mod Dictionaries
+pub mod Indexed
+pub mod DictionaryReading
+pub mod DictionarySearch
+pub mod DictionaryMaking
+pub mod CountedColumns
+pub mod SeenNames
