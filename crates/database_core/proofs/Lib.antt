@@ -1,0 +1,10 @@
+pub mod NowLemmas
+pub mod ListLemmas
+pub mod TableLemmas
+pub mod FilledLemmas
+pub mod OneOpeningLemmas
+pub mod StandingLemmas
+pub mod StandingOpensLemmas
+pub mod StepLemmas
+pub mod FillLemmas
+pub mod LoopLemmas
