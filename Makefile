@@ -45,6 +45,7 @@ bench: $(MORPHQ) $(COLUMN_TOOL)
 	bench/columns $(PROCESSOR)
 	bench/sizes $(PROCESSOR)
 	bench/auto $(PROCESSOR)
+	bench/dictionaries $(PROCESSOR)
 	bench/read_column
 	bench/first_query
 

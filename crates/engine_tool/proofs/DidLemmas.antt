@@ -5,8 +5,9 @@ use Rattle.std.specs.Io.KnownBytes.{IsAtEnd}
 use Rattle.stream_core.specs.Files.{Files}
 use Rattle.engine_tool.specs.declared.commands.Command.{Command}
 use Rattle.engine_tool.specs.Commands.{reads_files, reads_input, saves}
-use Rattle.engine_tool.specs.NowFiles.{Now}
-use Rattle.engine_tool.specs.Outcomes.{Refusal, Outcomes}
+use Rattle.database_core.specs.NowFiles.{Now}
+use Rattle.engine_tool.specs.Refusals.{Refusal}
+use Rattle.definitions_outcomes.specs.Outcomes.{Outcomes}
 use Rattle.engine_tool.specs.Replies.{Means, RefusesText, RefusesFiles, unchanged}
 use Rattle.engine_tool.specs.TableFiles.{now_of_table, SameSlot, SameRows}
 use Rattle.engine_tool.specs.Promises.{Inside, Told, FilesAre, ChangesOnly, StoreRose, InputRose}
@@ -63,7 +64,7 @@ pub record Kept (command : Command) (before after : Inside) (end : Result (List 
 
 module _ (command : Command) (before after : Inside) where
   -- the end of a command that saves nothing
-  answers_read : (files : Files) (text : List ℕ) (step : Outcomes (List ℕ)) → ((e : Result (List ℕ) Refusal) → step e → Means command files text (unchanged files e))
+  answers_read : (files : Files) (text : List ℕ) (step : Outcomes (List ℕ) Refusal) → ((e : Result (List ℕ) Refusal) → step e → Means command files text (unchanged files e))
       → after.files ≡ before.files → (end : Result (List ℕ) Stop) → EndsAs end step → Answers command before after files text end
   answers_read files text step means kept (Ok given) ends = (files, means (Ok given) ends, FilesAre-kept before.files after.files files kept)
   answers_read files text step means kept (Err stop.Usage) ends = ends
@@ -72,7 +73,7 @@ module _ (command : Command) (before after : Inside) where
   answers_read files text step means kept (Err stop.InputFault) ends = tt
   answers_read files text step means kept (Err stop.Memory) ends = tt
 
-  pub did_read : (step : Files → List ℕ → Outcomes (List ℕ)) → ((files : Files) (text : List ℕ) (e : Result (List ℕ) Refusal) → step files text e → Means command files text (unchanged files e))
+  pub did_read : (step : Files → List ℕ → Outcomes (List ℕ) Refusal) → ((files : Files) (text : List ℕ) (e : Result (List ℕ) Refusal) → step files text e → Means command files text (unchanged files e))
       → (end : Result (List ℕ) Stop) → ((files : Files) (text : List ℕ) → Told (Some command) before files text → EndsAs end (step files text))
       → Kept command before after end → Did command before after end
   did_read step means end ends kept = record {

@@ -1,7 +1,7 @@
 -- Which end of a command has which status.
 use Rattle.std.proofs.Common.{◌≡◌, ◌≢◌, ℕ, ◌⊎◌, inl, inr, List, Result, Ok, Err, refl, arith}
 use Rattle.std.specs.Prelude.{OnOk}
-use Rattle.engine_tool.specs.Outcomes.{Kind, query_text, database, sum, status_of_kind}
+use Rattle.engine_tool.specs.Refusals.{Kind, query_text, database, sum, status_of_kind}
 use Rattle.engine_tool.specs.Stops.{refusal_of, status_of}
 use Rattle.engine_tool.specs.declared.stops.Stop.{Stop}
 use Rattle.engine_tool.specs.declared.stops.Stop.TheVariants as stop

@@ -1,12 +1,12 @@
 -- Steps of the code, one after the other, are the steps of their definitions.
 use Rattle.std.proofs.Common.{Result, Ok, Err, refl, sym, inl, inr}
-use Rattle.engine_tool.specs.Outcomes as outcomes
-use Rattle.engine_tool.specs.Outcomes.{Outcomes, Gives, Then}
+use Rattle.definitions_outcomes.specs.Outcomes.{Outcomes, Gives, Then}
+use Rattle.engine_tool.specs.Refusals.{Refusal}
 use Rattle.engine_tool.specs.declared.stops.Stop.{Stop}
 use Rattle.engine_tool.specs.declared.stops.Stop.TheVariants as stop
 use Rattle.engine_tool.specs.Stops.{refusal_of, Ends, Computes}
 
-module _ {A B Y : Type 0} (view : Y → B) (first : Outcomes A) (next : A → Outcomes B) where
+module _ {A B Y : Type 0} (view : Y → B) (first : Outcomes A Refusal) (next : A → Outcomes B Refusal) where
   -- the first step stopped
   pub Ends-stopped : {X : Type 0} (from : X → A) (given : Stop) → Ends from (Err given) first → Ends view (Err given) (Then first next)
   Ends-stopped from stop.Usage h = absurd h
@@ -25,7 +25,7 @@ module _ {A B Y : Type 0} (view : Y → B) (first : Outcomes A) (next : A → Ou
   Ends-went value (Err stop.Memory) p q = tt
 
 -- a computed step is one among others
-pub Ends-computed : {X A : Type 0} (view : X → A) (result : Result X Stop) (outcome : Result A outcomes.Refusal) → Computes view result outcome → Ends view result (Gives outcome)
+pub Ends-computed : {X A : Type 0} (view : X → A) (result : Result X Stop) (outcome : Result A Refusal) → Computes view result outcome → Ends view result (Gives outcome)
 Ends-computed view (Ok x) outcome h = sym h
 Ends-computed view (Err stop.Usage) outcome h = absurd h
 Ends-computed view (Err (stop.Refused r)) outcome h = sym h

@@ -1,12 +1,13 @@
 pub mod Tokens
 pub mod Queries
 pub mod Texts
-pub mod NowFiles
 pub mod Views
 pub mod TableFiles
 pub mod Commands
-pub mod Outcomes
+pub mod Refusals
 pub mod Answers
+pub mod Checking
 pub mod Replies
 pub mod Promises
 pub mod Stops
+pub mod CheckStops

@@ -1,68 +1,40 @@
 -- What each command answers, for an outside that does not fail.
-use Rattle.std.specs.Prelude.{◌≡◌, ℕ, ◌^◌, ◌==◌, nat_le, nat_lt, List, [], ◌++◌, length, sum, codes, decimal, Option, Some, None, Result, Ok, Err, ok_or, if◌then◌else◌}
+use Rattle.std.specs.Prelude.{◌≡◌, ℕ, ◌^◌, ◌==◌, nat_lt, List, [], length, sum, codes, Option, Some, None, Result, Ok, Err, ok_or, if◌then◌else◌}
 use Rattle.definitions_blocks.specs.Formats.{Format}
 use Rattle.definitions_columns.specs.ColumnFiles.{Version, IsFileOf}
-use Rattle.definitions_columns.specs.FileFaults.{FileFault, bad_header, bad_directory, bad_block, bad_width, bad_tail, HasFileFault}
+use Rattle.definitions_columns.specs.FileFaults.{HasFileFault}
 use Rattle.definitions_operators.specs.Sums.{kept_values, sum_over}
+use Rattle.definitions_outcomes.specs.Computed.{bind}
+use Rattle.definitions_outcomes.specs.Outcomes.{Outcomes, Gives, OneOr, OneOrFault, Then}
 use Rattle.stream_core.specs.Files.{Files}
 use Rattle.stream_core.specs.Names.{now_file_name, column_file_name}
+use Rattle.database_core.specs.NowFiles.{Now, now_in}
+use Rattle.database_core.specs.Opening.{max_data_file}
 use Rattle.engine_tool.specs.Answers.{answer_text}
 use Rattle.engine_tool.specs.declared.commands.Command.{Command}
 use Rattle.engine_tool.specs.declared.commands.Command.TheVariants as command
-use Rattle.engine_tool.specs.NowFiles.{Now, now_in}
-use Rattle.engine_tool.specs.Outcomes as outcomes
-use Rattle.engine_tool.specs.Outcomes.{Refusal, Outcomes, Gives, OneOr, OneOrFault, Then, bind, status_of_kind}
+use Rattle.engine_tool.specs.Checking.{CheckReply}
 use Rattle.engine_tool.specs.Queries.{Condition, Query, Spells, max_query}
-
--- how many bytes are read of a column file at most
-abbrev pub max_column_file : ℕ
-max_column_file = 4294967296
-
--- the refusals
-abbrev pub bad_query : Refusal
-bad_query = record { kind = outcomes.query_text; line = codes "query: not built\n" }
-
--- a file of the table that is absent or out of form
-abbrev pub bad_file : List ℕ → List ℕ → Refusal
-bad_file name what = record { kind = outcomes.database; line = codes "database: " ++ name ++ codes ": " ++ what ++ codes "\n" }
-
-abbrev pub sum_too_wide : Refusal
-sum_too_wide = record { kind = outcomes.sum; line = codes "sum 1 operand 1 group 1: too wide\n" }
-
--- bytes that are not too long
-abbrev pub limited : ℕ → Refusal → List ℕ → Result (List ℕ) Refusal
-limited limit refusal bytes = if nat_le (length bytes) limit then Ok bytes else Err refusal
+use Rattle.engine_tool.specs.Refusals.{Refusal, status_of_kind, bad_query, bad_file, sum_too_wide, limited, file_of, bytes_of, fault_text}
 
 -- the query of a text: the text is not too long, and spells one
-abbrev pub QueryOf : List ℕ → Outcomes Query
+abbrev pub QueryOf : List ℕ → Outcomes Query Refusal
 QueryOf text = Then (Gives (limited max_query bad_query text)) (λ query. OneOr (Spells query) bad_query)
-
--- the bytes of a file
-abbrev pub file_of : Files → List ℕ → Result (List ℕ) Refusal
-file_of files name = ok_or (files name) (bad_file name (codes "no file"))
 
 -- where the table's rows stand
 abbrev pub now_of : Files → List ℕ → Result Now Refusal
 now_of files table = bind (file_of files (now_file_name table)) (λ bytes. ok_or (now_in bytes) (bad_file (now_file_name table) (codes "bad now")))
 
--- what is said of a fault of a column file
-abbrev pub fault_text : FileFault → List ℕ
-fault_text bad_header = codes "bad header"
-fault_text (bad_directory block) = codes "bad directory " ++ decimal block
-fault_text (bad_block block) = codes "bad block " ++ decimal block
-fault_text bad_width = codes "bad width"
-fault_text bad_tail = codes "bad tail"
-
 -- the bytes of a column file
 abbrev pub column_bytes : Files → List ℕ → Result (List ℕ) Refusal
-column_bytes files name = bind (file_of files name) (limited max_column_file (bad_file name (codes "too long")))
+column_bytes = bytes_of max_data_file
 
 -- the bytes are the file of this column in some version and format
 abbrev pub HoldsColumn : List ℕ → List ℕ → Type 0
 HoldsColumn bytes values = (version : Version) × (format : Format) × IsFileOf version format values bytes
 
 -- the column whose file the bytes are, or their first fault
-abbrev pub ValuesOf : List ℕ → List ℕ → Outcomes (List ℕ)
+abbrev pub ValuesOf : List ℕ → List ℕ → Outcomes (List ℕ) Refusal
 ValuesOf name bytes = OneOrFault (HoldsColumn bytes) (HasFileFault bytes) (λ fault. bad_file name (fault_text fault))
 
 -- one value for each row
@@ -70,10 +42,10 @@ abbrev pub for_rows : List ℕ → ℕ → List ℕ → Result (List ℕ) Refusa
 for_rows name rows values = if length values == rows then Ok values else Err (bad_file name (codes "length"))
 
 -- a column of the table, read from its file
-abbrev pub RowsOf : List ℕ → ℕ → List ℕ → Outcomes (List ℕ)
+abbrev pub RowsOf : List ℕ → ℕ → List ℕ → Outcomes (List ℕ) Refusal
 RowsOf name rows bytes = Then (ValuesOf name bytes) (λ values. Gives (for_rows name rows values))
 
-abbrev pub ColumnOf : Files → List ℕ → Now → List ℕ → Outcomes (List ℕ)
+abbrev pub ColumnOf : Files → List ℕ → Now → List ℕ → Outcomes (List ℕ) Refusal
 ColumnOf files table now column =
     Then (Gives (column_bytes files (column_file_name table now.slot column))) (RowsOf (column_file_name table now.slot column) now.rows)
 
@@ -82,12 +54,12 @@ pub record Loaded : Type 0 where
   pub summed : List ℕ
   pub tested : Option (List ℕ)
 
-abbrev pub TestedOf : Files → List ℕ → Now → List ℕ → Option Condition → Outcomes Loaded
+abbrev pub TestedOf : Files → List ℕ → Now → List ℕ → Option Condition → Outcomes Loaded Refusal
 TestedOf files table now summed None = Gives (Ok (record { summed = summed; tested = None }))
 TestedOf files table now summed (Some condition) =
     Then (ColumnOf files table now condition.tested) (λ tested. Gives (Ok (record { summed = summed; tested = Some tested })))
 
-abbrev pub LoadedOf : Files → Query → Outcomes Loaded
+abbrev pub LoadedOf : Files → Query → Outcomes Loaded Refusal
 LoadedOf files query =
     Then (Gives (now_of files query.table)) (λ now.
     Then (ColumnOf files query.table now query.summed) (λ summed. TestedOf files query.table now summed query.condition))
@@ -105,11 +77,11 @@ abbrev pub answer_over : List ℕ → Result (List ℕ) Refusal
 answer_over kept = if nat_lt (sum kept) (2 ^ 64) then Ok (answer_text (sum_over kept)) else Err sum_too_wide
 
 -- the answer to a query
-abbrev pub AnswerOf : Files → Query → Outcomes (List ℕ)
+abbrev pub AnswerOf : Files → Query → Outcomes (List ℕ) Refusal
 AnswerOf files query = Then (LoadedOf files query) (λ loaded. Gives (answer_over (kept_in query.condition loaded)))
 
 -- the answer to `query`
-abbrev pub QueryReply : Files → List ℕ → Outcomes (List ℕ)
+abbrev pub QueryReply : Files → List ℕ → Outcomes (List ℕ) Refusal
 QueryReply files text = Then (QueryOf text) (AnswerOf files)
 
 -- an answer: what is written, and the files afterwards
@@ -123,8 +95,9 @@ unchanged files (Ok text) = Ok (record { text = text; files = files })
 unchanged files (Err refusal) = Err refusal
 
 -- what a command answers
-abbrev pub Means : Command → Files → List ℕ → Outcomes Answer
+abbrev pub Means : Command → Files → List ℕ → Outcomes Answer Refusal
 Means command.Query files text end = (given : Result (List ℕ) Refusal) × QueryReply files text given × (end ≡ unchanged files given)
+Means command.Check files text end = (given : Result (List ℕ) Refusal) × CheckReply files given × (end ≡ unchanged files given)
 
 -- what any words answer: the exit status, what is written, and the files afterwards
 pub record Reply : Type 0 where
@@ -147,11 +120,13 @@ Replies (Some command) files text reply = (end : Result Answer Refusal) × Means
 abbrev pub RefusesText : Option Command → List ℕ → Type 0
 RefusesText None text = ⊥
 RefusesText (Some command.Query) text = (asked : Query) → QueryOf text (Ok asked) → ⊥
+RefusesText (Some command.Check) text = ⊥
 
 -- the command refuses the files whatever the input holds, before it reads it
 abbrev pub RefusesFiles : Option Command → Files → Type 0
 RefusesFiles None files = ⊥
 RefusesFiles (Some command.Query) files = ⊥
+RefusesFiles (Some command.Check) files = (text : List ℕ) → CheckReply files (Ok text) → ⊥
 
 -- a command has one reply at most
 abbrev pub OneReply : Type 0

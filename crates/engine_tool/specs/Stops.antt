@@ -1,14 +1,15 @@
 -- How a step of a command ends in the code, and what that says of its definition.
 use Rattle.std.specs.Prelude.{◌≡◌, ℕ, false, ◌⊎◌, List, ◌++◌, codes, decimal, Option, Some, None, Result, Ok, Err, OnOk, IsTrue, IsErrOf}
 use Rattle.std.specs.Io.KnownBytes.{IsAtEnd}
+use Rattle.definitions_outcomes.specs.Outcomes.{Outcomes}
 use Rattle.stream_core.specs.Faults.{Rose}
 use Rattle.stream_core.specs.Files.{Files}
-use Rattle.stream_core.specs.Names.{now_file_name}
+use Rattle.stream_core.specs.Names.{now_file_name, schema_file_name}
 use Rattle.engine_tool.specs.declared.commands.Command.{Command}
 use Rattle.engine_tool.specs.Commands.{reads_files, reads_input, saves}
-use Rattle.engine_tool.specs.Outcomes as outcomes
-use Rattle.engine_tool.specs.Outcomes.{Outcomes, status_of_kind}
-use Rattle.engine_tool.specs.Replies.{Means, RefusesText, RefusesFiles, usage_line, bad_query, bad_file, sum_too_wide}
+use Rattle.engine_tool.specs.Refusals as refusals
+use Rattle.engine_tool.specs.Refusals.{status_of_kind, bad_query, bad_file, sum_too_wide}
+use Rattle.engine_tool.specs.Replies.{Means, RefusesText, RefusesFiles, usage_line}
 use Rattle.engine_tool.specs.TableFiles.{SameRows, SameBut}
 use Rattle.engine_tool.specs.Promises.{Inside, Outside, Told, FilesAre, ChangesOnly, StoreRose, InputRose, Took, IsCutOff, Leaves}
 use Rattle.engine_tool.specs.declared.stops.What.{What}
@@ -29,11 +30,18 @@ what_text (what.BadBlock block) = codes "bad block " ++ decimal block
 what_text what.BadWidth = codes "bad width"
 what_text what.BadTail = codes "bad tail"
 what_text what.Length = codes "length"
+what_text (what.BadEntry entry) = codes "bad entry " ++ decimal entry
+what_text what.Trailing = codes "trailing"
+what_text what.BadCode = codes "bad code"
+what_text what.BadToml = codes "bad toml"
+what_text (what.Shape table column) = codes "shape " ++ decimal table ++ codes " " ++ decimal column
 
 -- the refusal that a variant stands for
-abbrev pub refusal_of : Refusal → outcomes.Refusal
+abbrev pub refusal_of : Refusal → refusals.Refusal
 refusal_of refusal.Query = bad_query
 refusal_of (refusal.Database file what) = bad_file file (what_text what)
+refusal_of (refusal.RepeatedName name) = bad_file schema_file_name (codes "repeated " ++ name)
+refusal_of (refusal.RepeatedKey table) = bad_file table (codes "repeated key")
 refusal_of refusal.SumTooWide = sum_too_wide
 
 -- the status and the line of a stop
@@ -66,7 +74,7 @@ pub data IsWritten (end : Result (List ℕ) Stop) (before after : Outside) (stat
   cut : status ≡ 3 → IsCutOff before after (text_of end) → IsWritten end before after status
 
 -- How a step ended is an outcome of its definition. A fault and want of memory say nothing.
-abbrev pub Ends : {X A : Type 0} → (X → A) → Result X Stop → Outcomes A → Type 0
+abbrev pub Ends : {X A : Type 0} → (X → A) → Result X Stop → Outcomes A refusals.Refusal → Type 0
 Ends view (Ok x) step = step (Ok (view x))
 Ends view (Err stop.Usage) step = ⊥
 Ends view (Err (stop.Refused given)) step = step (Err (refusal_of given))
@@ -75,11 +83,11 @@ Ends view (Err stop.InputFault) step = Unit {0}
 Ends view (Err stop.Memory) step = Unit {0}
 
 -- the same, where the value stands for itself
-abbrev pub EndsAs : {A : Type 0} → Result A Stop → Outcomes A → Type 0
+abbrev pub EndsAs : {A : Type 0} → Result A Stop → Outcomes A refusals.Refusal → Type 0
 EndsAs result step = Ends (λ a. a) result step
 
 -- the same of a step that is computed; written out, since proofs find it so
-abbrev pub Computes : {X A : Type 0} → (X → A) → Result X Stop → Result A outcomes.Refusal → Type 0
+abbrev pub Computes : {X A : Type 0} → (X → A) → Result X Stop → Result A refusals.Refusal → Type 0
 Computes view (Ok x) outcome = outcome ≡ Ok (view x)
 Computes view (Err stop.Usage) outcome = ⊥
 Computes view (Err (stop.Refused given)) outcome = outcome ≡ Err (refusal_of given)

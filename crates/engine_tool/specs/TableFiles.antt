@@ -2,7 +2,7 @@
 use Rattle.std.specs.Prelude.{◌≡◌, ℕ, ◌⊎◌, ◌==◌, List, [], ◌∷◌, ◌++◌, codes, Option, Some, None, if◌then◌else◌}
 use Rattle.stream_core.specs.Files.{Files}
 use Rattle.stream_core.specs.Names.{now_file_name}
-use Rattle.engine_tool.specs.NowFiles.{Now, now_in}
+use Rattle.database_core.specs.NowFiles.{Now, now_in}
 
 -- all files are the same, and all but one
 abbrev pub Same : Files → Files → Type 0

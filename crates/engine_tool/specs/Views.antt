@@ -1,22 +1,10 @@
 -- What values of the code stand for.
 use Rattle.std.specs.Prelude.{◌≡◌, ℕ, List, length, Option, Some, None, IfSome}
 use Rattle.column_core.specs.Columns.{Shape}
-use Rattle.engine_tool.specs.NowFiles as now_files
 use Rattle.engine_tool.specs.Replies as replies
-use Rattle.engine_tool.specs.declared.now_file.Slot.{Slot}
-use Rattle.engine_tool.specs.declared.now_file.Slot.TheVariants as slot
-use Rattle.engine_tool.specs.declared.now_file.Now.{Now}
 use Rattle.engine_tool.specs.declared.loading.Tested.{Tested}
 use Rattle.engine_tool.specs.declared.loading.Tested.TheVariants as tested
 use Rattle.engine_tool.specs.declared.loading.Loaded.{Loaded}
-
--- the letter of a slot
-abbrev pub letter_of : Slot → ℕ
-letter_of slot.A = 97
-letter_of slot.B = 98
-
-abbrev pub now_view : Now → now_files.Now
-now_view now = record { slot = letter_of now.slot; rows = now.rows }
 
 -- the list of a column
 abbrev pub values_of : Shape → List ℕ

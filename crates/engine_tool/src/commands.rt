@@ -6,7 +6,10 @@ ghost use Rattle.engine_tool.specs.Commands.{command_in};
 /// A command with its options.
 #[derive(Clone, Copy, Debug, PartialEq, Eq)]
 pub enum Command {
+    /// A sum over a table, whose text is the input.
     Query,
+    /// The whole database is read, and its tables and columns are listed.
+    Check,
 }
 
 /// The command that the words denote, if any.
@@ -25,6 +28,9 @@ fn lone_command(word: &str) -> Option<Command>
 {
     if word == "query" {
         return Some(Command::Query);
+    }
+    if word == "check" {
+        return Some(Command::Check);
     }
     None
 }

@@ -2,20 +2,20 @@
 
 ghost use Rattle.std.specs.Prelude.{◌≡◌, ℕ, List as Items, Some, Ok, Err, length, IfOk, IsErrOf, IsTrue, ◌↔◌};
 ghost use Rattle.stream_core.specs.Files.{Files};
-ghost use Rattle.stream_core.specs.Names.{now_file_name, column_file_name};
 ghost use Rattle.column_file.specs.Faults.{Says};
 ghost use Rattle.column_core.specs.Columns.{Shape};
-ghost use Rattle.engine_tool.specs.Replies.{now_of, column_bytes, ValuesOf, for_rows, ColumnOf, TestedOf, LoadedOf};
+ghost use Rattle.engine_tool.specs.Replies.{now_of, ValuesOf, for_rows, ColumnOf, TestedOf, LoadedOf};
 ghost use Rattle.engine_tool.specs.Stops.{Ends, EndsAs, Computes, KeepsStore, IsInner, TakesNoMemory};
 ghost use Rattle.engine_tool.specs.Texts.{condition_view, query_view};
-ghost use Rattle.engine_tool.specs.Views.{letter_of, now_view, values_of, loaded_view, HasRows};
+ghost use Rattle.database_core.specs.NowViews.{now_view};
+ghost use Rattle.engine_tool.specs.Views.{values_of, loaded_view, HasRows};
 
-use crate::now_file::{Now, Slot, read_now};
-use crate::stops::{Refusal, Stop, What};
+use crate::files::{bytes_of, column_what, refused};
+use crate::stops::{Stop, What};
 use crate::text::{Condition, SumQuery};
-use arrayvec::ArrayString;
 use column_core::Column;
 use column_file::{ColumnError, read_column};
+use database_core::{Now, column_file_name, now_file_name, read_now};
 use std::alloc::Global;
 use stream_core::{Bytes, FileName, LoadError, Name, Store};
 
@@ -41,38 +41,6 @@ pub struct Loaded {
     pub tested: Tested,
 }
 
-/// `TABLE.now`.
-fn now_file_name(table: &Name) -> FileName
-    ensures { result ≡ now_file_name table.now }
-{
-    let mut name = ArrayString::<72>::new();
-    name.push_str(table.as_str());
-    name.push_str(".now");
-    FileName::of(name.as_str()).unwrap()
-}
-
-/// `TABLE.SLOT.COLUMN.col`.
-fn column_file_name(table: &Name, slot: Slot, column: &Name) -> FileName
-    ensures { result ≡ column_file_name table.now (letter_of slot) column.now }
-{
-    let mut name = ArrayString::<72>::new();
-    name.push_str(table.as_str());
-    name.push_str(".");
-    name.push(char::from(slot.letter()));
-    name.push_str(".");
-    name.push_str(column.as_str());
-    name.push_str(".col");
-    FileName::of(name.as_str()).unwrap()
-}
-
-/// The refusal of a file.
-fn refused(file: &FileName, what: What) -> Stop
-    ensures { result ≡ Stop.Refused (Refusal.Database file.now what) }
-{
-    let file = FileName::of(file.as_str()).unwrap();
-    Stop::Refused(Refusal::Database(file, what))
-}
-
 /// Where the table's rows stand.
 fn now_of<S: Store>(alloc: Global, store: &mut S, table: &Name) -> Result<Now, Stop>
     ensures step { (files : Files) → S.files store.old ≡ Some files → Computes now_view result (now_of files table.now) }
@@ -91,33 +59,15 @@ fn now_of<S: Store>(alloc: Global, store: &mut S, table: &Name) -> Result<Now, S
     }
 }
 
-/// The bytes of a column file.
-fn column_bytes<S: Store>(alloc: Global, store: &mut S, file: &FileName) -> Result<Bytes, Stop>
-    ensures step { (files : Files) → S.files store.old ≡ Some files → Computes (λ (b : Items ℕ). b) result (column_bytes files file.now) }
-    ensures kept { KeepsStore (S.files store.old) (S.files store.new) (S.faults store.old) (S.faults store.new) result }
-{
-    match store.load(alloc, file.as_str(), MAX_COLUMN_FILE) {
-        Ok(Some(bytes)) => Ok(bytes),
-        Ok(None) => Err(refused(file, What::NoFile)),
-        Err(LoadError::TooLong) => Err(refused(file, What::TooLong)),
-        Err(LoadError::Failed) => Err(Stop::StoreFault),
-        Err(LoadError::Memory) => Err(Stop::Memory),
-    }
-}
-
 /// What an error of a column file ends a command with.
 fn column_stop(file: &FileName, error: ColumnError) -> Stop
     ensures step { (bytes : Items ℕ) → Says bytes error → Ends values_of (Err result) (ValuesOf file.now bytes) }
     ensures kept { IsInner {X = Shape} (Err result) }
     ensures memory { result ≡ Stop.Memory → error ≡ ColumnError.Memory }
 {
-    match error {
-        ColumnError::BadHeader => refused(file, What::BadHeader),
-        ColumnError::BadDirectory { block } => refused(file, What::BadDirectory(block)),
-        ColumnError::BadBlock { block } => refused(file, What::BadBlock(block)),
-        ColumnError::BadWidth => refused(file, What::BadWidth),
-        ColumnError::BadTail => refused(file, What::BadTail),
-        ColumnError::Memory => Stop::Memory,
+    match column_what(error) {
+        Some(what) => refused(file, what),
+        None => Stop::Memory,
     }
 }
 
@@ -159,7 +109,7 @@ fn column_of<S: Store>(
     ensures rows { IfOk result (λ found. length found.values ≡ now.rows) }
 {
     let file = column_file_name(table, now.slot, column);
-    let bytes = column_bytes(alloc, store, &file)?;
+    let bytes = bytes_of(alloc, store, &file, MAX_COLUMN_FILE)?;
     let column = checked_column(alloc, &file, bytes)?;
     for_rows(&file, now.rows, column)
 }

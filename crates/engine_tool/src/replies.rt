@@ -1,14 +1,16 @@
 //! What a command answers, before anything is written.
 
-ghost use Rattle.std.specs.Prelude.{◌≡◌, ℕ, List as Items, Some, map, string_bytes};
+ghost use Rattle.std.specs.Prelude.{◌≡◌, ℕ, List as Items, Option, Some, map, string_bytes};
+ghost use Rattle.definitions_outcomes.specs.Outcomes.{OneOr};
 ghost use Rattle.stream_core.specs.Files.{Files};
 ghost use Rattle.engine_tool.specs.Commands.{command_in};
-ghost use Rattle.engine_tool.specs.Outcomes.{OneOr};
 ghost use Rattle.engine_tool.specs.Queries.{Spells, max_query};
-ghost use Rattle.engine_tool.specs.Replies.{bad_query, limited, QueryOf, AnswerOf};
+ghost use Rattle.engine_tool.specs.Refusals.{bad_query, limited};
+ghost use Rattle.engine_tool.specs.Replies.{QueryOf, AnswerOf};
 ghost use Rattle.engine_tool.specs.Stops.{Ends, EndsAs, Computes, KeepsStore, KeepsInput, TakesNoMemory, Did, DidAny, inside};
 ghost use Rattle.engine_tool.specs.Texts.{query_view};
 
+use crate::checking::checked;
 use crate::commands::{Command, command_of};
 use crate::loading::loaded_of;
 use crate::stops::{Refusal, Stop};
@@ -71,6 +73,15 @@ fn query<S: Store, I: Source>(alloc: Global, store: &mut S, input: &mut I) -> Re
     answer(alloc, store, &query)
 }
 
+/// The answer to `check`, which reads no input.
+fn check<S: Store>(alloc: Global, store: &mut S) -> Result<Bytes, Stop>
+    ensures { (input : Option (Items ℕ)) (input_faults : ℕ) → Did Command.Check
+        (inside (S.files store.old) (S.faults store.old) input input_faults)
+        (inside (S.files store.new) (S.faults store.new) input input_faults) result }
+{
+    checked(alloc, store)
+}
+
 /// What the words answer.
 pub fn reply<S: Store, I: Source>(
     alloc: Global,
@@ -85,5 +96,6 @@ pub fn reply<S: Store, I: Source>(
     match command_of(words) {
         None => Err(Stop::Usage),
         Some(Command::Query) => query(alloc, store, input),
+        Some(Command::Check) => check(alloc, store),
     }
 }

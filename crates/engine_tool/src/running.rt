@@ -33,8 +33,8 @@ fn respond<O: Sink>(out: &mut O, end: Result<Bytes, Stop>) -> u8
 
 /// Does what the words say, over the files of `store`, with the text of `input`, and writes the answer or one line that
 /// says why there is none to `out`. The result is the exit status: 0 where the whole answer was taken, 1 where the text is
-/// no query, 2 where the words are no command, 3 after a call that failed, 4 where the table doesn't open, 5 where a sum
-/// is too wide, and 6 where memory was refused.
+/// no query, 2 where the words are no command, 3 after a call that failed, 4 where a file of the database is absent or out of
+/// form, 5 where a sum is too wide, and 6 where memory was refused.
 pub fn run<S: Store, I: Source, O: Sink>(
     alloc: Global,
     words: &[String],

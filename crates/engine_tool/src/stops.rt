@@ -1,18 +1,19 @@
 //! How a command ends early.
 
 ghost use Rattle.std.specs.Prelude.{◌≡◌, ◌+◌, ◌≤◌, ◌++◌, length, codes, decimal};
-ghost use Rattle.engine_tool.specs.Outcomes.{status_of_kind};
+ghost use Rattle.stream_core.specs.Names.{schema_file_name};
+ghost use Rattle.engine_tool.specs.Refusals.{status_of_kind};
 ghost use Rattle.engine_tool.specs.Stops.{refusal_of, what_text, stop_status, stop_line};
 
 use arrayvec::ArrayString;
 use itoa::Buffer;
 use std::alloc::AllocError;
-use stream_core::FileName;
+use stream_core::{FileName, Name};
 
 /// A line has at most 119 bytes: `database: `, a file's name of at most 72, `: bad directory ` and a number.
 pub type Line = ArrayString<128>;
 
-/// What is wrong with a file of a table.
+/// What is wrong with a file of a database.
 #[derive(Clone, Copy, Debug, PartialEq, Eq)]
 pub enum What {
     NoFile,
@@ -25,6 +26,15 @@ pub enum What {
     BadTail,
     /// A column has another count than the table's rows.
     Length,
+    /// An entry of a dictionary, counted from 0.
+    BadEntry(u64),
+    /// Bytes follow a dictionary's last entry.
+    Trailing,
+    /// A value of a text column is no code of its dictionary.
+    BadCode,
+    BadToml,
+    /// A key of the schema is not allowed. Tables and columns count from 1; 0 is none.
+    Shape { table: u32, column: u32 },
 }
 
 /// A cause that the answer names.
@@ -32,29 +42,37 @@ pub enum What {
 pub enum Refusal {
     /// The text is no query that is built.
     Query,
-    /// A file of the table is absent or out of form.
+    /// A file of the database is not good, for this reason.
     Database(FileName, What),
+    /// Two tables or two columns of the schema have this name.
+    RepeatedName(Name),
+    /// Two rows of this table have one key.
+    RepeatedKey(Name),
     /// The sum is 2^64 or more.
     SumTooWide,
 }
 
 impl Refusal {
+    /// The exit status.
     pub fn status(&self) -> u8
         ensures { result ≡ status_of_kind (refusal_of self.now).kind }
     {
         match self {
             Refusal::Query => 1,
-            Refusal::Database(_, _) => 4,
+            Refusal::Database(_, _) | Refusal::RepeatedName(_) | Refusal::RepeatedKey(_) => 4,
             Refusal::SumTooWide => 5,
         }
     }
 
+    /// The line that is written, with its line feed.
     pub fn line(&self) -> Line
         ensures { result.bytes ≡ (refusal_of self.now).line }
     {
         match self {
             Refusal::Query => line_of("query: not built\n"),
             Refusal::Database(file, what) => database_line(file, *what),
+            Refusal::RepeatedName(name) => repeated_name_line(name),
+            Refusal::RepeatedKey(table) => repeated_key_line(table),
             Refusal::SumTooWide => line_of("sum 1 operand 1 group 1: too wide\n"),
         }
     }
@@ -82,6 +100,26 @@ fn database_line(file: &FileName, what: What) -> Line
     line
 }
 
+/// `database: schema.toml: repeated NAME`.
+fn repeated_name_line(name: &Name) -> Line
+    ensures { result.bytes ≡ codes "database: " ++ schema_file_name ++ codes ": " ++ (codes "repeated " ++ name.now) ++ codes "\n" }
+{
+    let mut line = line_of("database: schema.toml: repeated ");
+    line.push_str(name.as_str());
+    line.push_str("\n");
+    line
+}
+
+/// `database: TABLE: repeated key`.
+fn repeated_key_line(table: &Name) -> Line
+    ensures { result.bytes ≡ codes "database: " ++ table.now ++ codes ": " ++ codes "repeated key" ++ codes "\n" }
+{
+    let mut line = line_of("database: ");
+    line.push_str(table.as_str());
+    line.push_str(": repeated key\n");
+    line
+}
+
 /// Appends what is wrong with a file: at most 34 bytes.
 fn push_what(line: &mut Line, what: What)
     requires { length line.old.bytes ≤ 90 }
@@ -98,10 +136,28 @@ fn push_what(line: &mut Line, what: What)
         What::BadWidth => line.push_str("bad width"),
         What::BadTail => line.push_str("bad tail"),
         What::Length => line.push_str("length"),
+        What::BadEntry(entry) => push_numbered(line, "bad entry ", entry),
+        What::Trailing => line.push_str("trailing"),
+        What::BadCode => line.push_str("bad code"),
+        What::BadToml => line.push_str("bad toml"),
+        What::Shape { table, column } => push_shape(line, table, column),
     }
 }
 
-/// Appends a short text and the number of a block.
+/// Appends the place of a key of the schema.
+fn push_shape(line: &mut Line, table: u32, column: u32)
+    requires { length line.old.bytes ≤ 90 }
+    ensures text { line.new.bytes ≡ line.old.bytes ++ (codes "shape " ++ decimal table ++ codes " " ++ decimal column) }
+    ensures short { length line.new.bytes ≤ length line.old.bytes + 34 }
+{
+    let mut buffer = Buffer::new();
+    line.push_str("shape ");
+    line.push_str(buffer.format(table));
+    line.push_str(" ");
+    line.push_str(buffer.format(column));
+}
+
+/// Appends a short text and a number.
 fn push_numbered(line: &mut Line, what: &str, block: u64)
     requires room { length line.old.bytes ≤ 90 }
     requires few { length what.now ≤ 14 }

@@ -7,14 +7,14 @@ ghost use Rattle.std.specs.Prelude.{◌≡◌, ℕ, ◌^◌, ◌<◌, ◌≤◌,
 ghost use Rattle.std.specs.Char.{is_ascii_digit};
 ghost use Rattle.std.specs.Str.{str_to_ascii_lowercase};
 ghost use Rattle.std.specs.List.{prefix_len, list_all, AllPass};
-ghost use Rattle.stream_core.specs.Names.{is_name_byte, is_keyword, begins_with_letter, IsName};
+ghost use Rattle.stream_core.specs.Names.{is_name_byte, IsName};
 ghost use Rattle.engine_tool.specs.Tokens.{word, number, symbol, is_white_space, begins_word, continues_word, front, behind, value_of, Begins, AreTokens};
 ghost use Rattle.engine_tool.specs.Queries as queries;
 ghost use Rattle.engine_tool.specs.Queries.{Query, Spells, NamesTested, item_tokens, table_tokens, condition_tokens, where_tokens};
 ghost use Rattle.engine_tool.specs.Texts.{class_test, LacksToken, HasToken, condition_view, query_view};
 
 use arrayvec::ArrayString;
-use stream_core::Name;
+use stream_core::{Name, is_name};
 
 /// A column's value is from `low` to `high`.
 #[derive(Drop)]
@@ -62,29 +62,6 @@ fn is_name_byte(byte: u8) -> bool
     ensures { result ≡ is_name_byte byte }
 {
     byte.is_ascii_lowercase() || byte.is_ascii_digit() || byte == b'_'
-}
-
-/// Whether the word is one of the query language's, which are no names.
-fn is_keyword(word: &str) -> bool
-    ensures { result ≡ is_keyword word.now }
-{
-    matches!(
-        word,
-        "select"
-            | "from"
-            | "where"
-            | "and"
-            | "or"
-            | "between"
-            | "in"
-            | "group"
-            | "order"
-            | "by"
-            | "asc"
-            | "desc"
-            | "sum"
-            | "as"
-    )
 }
 
 /// How many bytes of the class the text begins with.
@@ -198,16 +175,6 @@ fn lower_case(word: &[u8]) -> Option<ArrayString<31>>
     Some(lower)
 }
 
-/// Whether the text begins with a lower-case letter.
-fn begins_with_letter(text: &[u8]) -> bool
-    ensures { result ≡ begins_with_letter text.now }
-{
-    match text {
-        [first, ..] => first.is_ascii_lowercase(),
-        [] => false,
-    }
-}
-
 /// The word in lower case as a name, where it is one.
 fn name_of(word: &[u8]) -> Option<Name>
     ensures { MatchOption result (¬ (IsName (str_to_ascii_lowercase word.now)))
@@ -218,7 +185,7 @@ fn name_of(word: &[u8]) -> Option<Name>
     }
     let lower = lower_case(word)?;
     let lower = lower.as_str();
-    if !begins_with_letter(lower.as_bytes()) || is_keyword(lower) {
+    if !is_name(lower) {
         return None;
     }
     Name::of(lower)

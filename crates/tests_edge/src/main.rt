@@ -5,6 +5,7 @@
 //! left out nor one that is always 0 goes unseen.
 #![tactic(auto)]
 
+mod checks;
 mod commands;
 mod files;
 mod queries;
@@ -20,8 +21,9 @@ const UNPRINTED: u8 = 255;
 fn sum_of_statuses(rt: &HostRuntime) -> io::Result<u8> {
     let queries = queries::sum_of_statuses(rt)?;
     let streams = streams::sum_of_statuses(rt)?;
+    let checks = checks::sum_of_statuses(rt)?;
     files::print_cases(rt)?;
-    Ok(queries.saturating_add(streams))
+    Ok(queries.saturating_add(streams).saturating_add(checks))
 }
 
 fn main(rt: HostRuntime) -> ExitCode {

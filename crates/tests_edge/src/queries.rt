@@ -56,11 +56,12 @@ const QUERIES: [(&str, &str); 21] = [
 ];
 
 /// Words that are no command.
-const WORDS: [(&str, &[&str]); 4] = [
+const WORDS: [(&str, &[&str]); 5] = [
     ("no word", &[]),
     ("an empty word", &[""]),
     ("another word", &["help"]),
     ("a word too many", &["query", "query"]),
+    ("a word behind check", &["check", "t"]),
 ];
 
 /// Runs the cases, and gives the sum of their statuses.

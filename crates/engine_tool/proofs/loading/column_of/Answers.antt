@@ -1,6 +1,6 @@
 use Rattle.std.proofs.Common.{Err, sym}
 use Rattle.std.proofs.lemmas.Result.{err_from_is_err_and}
-use Rattle.engine_tool.specs.Outcomes.{Gives}
+use Rattle.definitions_outcomes.specs.Outcomes.{Gives}
 use Rattle.engine_tool.specs.Replies.{column_bytes, for_rows, ValuesOf, RowsOf}
 use Rattle.engine_tool.specs.Views.{values_of}
 use Rattle.engine_tool.proofs.StepLemmas.{Ends-stopped, Ends-went, Ends-computed}

@@ -1,12 +1,9 @@
-use Rattle.std.proofs.Common.{refl}
-use Rattle.definitions_columns.specs.FileFaults.{bad_directory, bad_block, bad_tail}
+use Rattle.column_file.specs.Faults.{fault_of, IsFirstFile}
+use Rattle.engine_tool.specs.Stops.{what_text}
+use Rattle.engine_tool.proofs.CheckLemmas.{fault_named}
 use Rattle.engine_tool.proofs.loading.column_stop.Goals as goal
 
-pub returns-in-BadDirectory-clause-step : goal.returns-in-BadDirectory-clause-step
-returns-in-BadDirectory-clause-step c = λ bytes says. rw c.refused-in-BadDirectory.ensures (bad_directory c.in-BadDirectory.block, rw c.in-BadDirectory.is at says, refl)
-
-pub returns-in-BadBlock-clause-step : goal.returns-in-BadBlock-clause-step
-returns-in-BadBlock-clause-step c = λ bytes says. rw c.refused-in-BadBlock.ensures (bad_block c.in-BadBlock.block, rw c.in-BadBlock.is at says, refl)
-
-pub returns-in-BadTail-clause-step : goal.returns-in-BadTail-clause-step
-returns-in-BadTail-clause-step c = λ bytes says. rw c.refused-in-BadTail.ensures (bad_tail, rw c.in-BadTail.is at says, refl)
+pub returns-in-Some-clause-step : goal.returns-in-Some-clause-step
+returns-in-Some-clause-step c = λ bytes says.
+    rw c.refused.ensures
+    (fault_named c.args.file.now bytes (fault_of c.args.error) (what_text c.in-Some.what) (IsFirstFile bytes) says c.in-Some.ensures.what)

@@ -1,17 +1,19 @@
 use Rattle.std.proofs.Common.{Err, sym, ◌∙◌}
 use Rattle.std.proofs.lemmas.Result.{err_from_is_err_and}
 use Rattle.stream_core.specs.Files.{Files}
-use Rattle.engine_tool.specs.NowFiles.{Now}
-use Rattle.engine_tool.specs.Outcomes.{Outcomes, Gives, Then}
+use Rattle.database_core.specs.NowFiles.{Now}
+use Rattle.definitions_outcomes.specs.Outcomes.{Outcomes, Gives, Then}
 use Rattle.engine_tool.specs.Queries.{Query}
+use Rattle.engine_tool.specs.Refusals.{Refusal}
 use Rattle.engine_tool.specs.Replies.{Loaded, now_of, ColumnOf, TestedOf}
 use Rattle.engine_tool.specs.Texts.{query_view}
-use Rattle.engine_tool.specs.Views.{now_view, values_of, loaded_view}
+use Rattle.database_core.specs.NowViews.{now_view}
+use Rattle.engine_tool.specs.Views.{values_of, loaded_view}
 use Rattle.engine_tool.proofs.StepLemmas.{Ends-stopped, Ends-went}
 use Rattle.engine_tool.proofs.loading.loaded_of.Goals as goal
 
 -- the steps after the now file
-abbrev after_now : Files → Query → Now → Outcomes Loaded
+abbrev after_now : Files → Query → Now → Outcomes Loaded Refusal
 after_now files query now = Then (ColumnOf files query.table now query.summed) (λ summed. TestedOf files query.table now summed query.condition)
 
 pub returns-in_err-summed-clause-step : goal.returns-in_err-summed-clause-step

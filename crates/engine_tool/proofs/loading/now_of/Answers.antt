@@ -4,10 +4,11 @@ use Rattle.stream_core.specs.Files.{Files}
 use Rattle.stream_core.specs.Names.{now_file_name}
 use Rattle.stream_core.specs.Stores.{Exceeds, IsLoaded}
 use Rattle.stream_core.specs.declared.storing.LoadError.TheVariants as load
-use Rattle.engine_tool.specs.NowFiles.{now_in}
-use Rattle.engine_tool.specs.Outcomes.{bind}
-use Rattle.engine_tool.specs.Replies.{bad_file, now_of}
-use Rattle.engine_tool.proofs.NowLemmas.{other_length}
+use Rattle.database_core.specs.NowFiles.{now_in}
+use Rattle.definitions_outcomes.specs.Computed.{bind}
+use Rattle.engine_tool.specs.Refusals.{bad_file}
+use Rattle.engine_tool.specs.Replies.{now_of}
+use Rattle.database_core.proofs.NowLemmas.{other_length}
 use Rattle.engine_tool.proofs.loading.now_of.Goals as goal
 
 -- a file that is too long is no now file

@@ -1,6 +1,6 @@
 use Rattle.std.proofs.Common.{◌≡◌, Ok, refl, sym, subst, inl}
 use Rattle.engine_tool.specs.Replies.{ColumnOf}
-use Rattle.engine_tool.specs.Views.{now_view}
+use Rattle.database_core.specs.NowViews.{now_view}
 use Rattle.engine_tool.proofs.loading.with_tested.Goals as goal
 
 -- the column that is tested is the one that was loaded
