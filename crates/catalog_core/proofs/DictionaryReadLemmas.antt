@@ -1,5 +1,5 @@
 -- What bytes show of their head and of an entry, and entries one after the other.
-use Rattle.std.proofs.Common.{◌≡◌, ◌≢◌, ◌∙◌, ◌<◌, ◌≤◌, ◌+◌, ◌-◌, ◌*◌, ◌/◌, min, ℕ, true, List, [], ◌∷◌, ◌++◌, Option, Some, None, refl, sym, ap, subst, length, take, drop, IsUtf8, arith, length-append}
+use Rattle.std.proofs.Common.{◌≡◌, ◌≢◌, ◌∙◌, ◌<◌, ◌≤◌, ◌+◌, ◌*◌, ℕ, true, List, [], ◌∷◌, ◌++◌, Option, Some, None, refl, sym, ap, subst, length, take, drop, IsUtf8, arith, length-append}
 use Rattle.std.specs.Int.{from_le_bytes, w32, w64}
 use Rattle.std.specs.List.{AllByRecursion}
 use Rattle.std.proofs.lemmas.List.{append_assoc, append-nil, take_at, drop_at, drop-drop, drop_all, take-append-drop, length-take-le, length-drop}
@@ -12,7 +12,7 @@ use Rattle.catalog_core.specs.declared.errors.DictError.TheVariants as error
 use Rattle.catalog_core.specs.Texts.{Text, IsText, max_text}
 use Rattle.catalog_core.specs.Indexed.{starts_from, text_at, texts_at, IsIndexed}
 use Rattle.catalog_core.specs.Dictionaries.{AreTexts, length_bytes, entry_of, entries_of, dictionary_head, dictionary_file, HasDictionaryFault}
-use Rattle.catalog_core.specs.DictionaryReading.{BeginsWithCount, LacksCount, may_follow, BeginsWithEntry, LacksText, LacksNext, ReadSo}
+use Rattle.catalog_core.specs.DictionaryReading.{BeginsWithCount, LacksCount, may_follow, BeginsWithEntry, LacksText, LacksNext, ReadSo, room_for}
 use Rattle.catalog_core.proofs.TextLemmas.{rises-push, follows_of_rises, last_of-push}
 use Rattle.catalog_core.proofs.DictionaryFileLemmas.{length-dictionary_head, length-length_bytes, length_back, entries_of-cons}
 
@@ -135,10 +135,6 @@ entries_long : (texts : List Text) → 4 * length texts ≤ length (entries_of t
 entries_long [] = omega arith
 entries_long (text ∷ texts) = omega (arith, entries_long texts, length-append (entry_of text) (entries_of texts), length-append (length_bytes text) text, length-length_bytes text)
 
--- how many starts memory was taken for
-abbrev pub room_for : List ℕ → ℕ → ℕ
-room_for bytes count = min ((length bytes - 16) / 4) count
-
 -- one more has room
 pub has_room : (count number place : ℕ) (bytes starts : List ℕ) (last : Option Text) (text : Text) → number < count → ReadSo bytes number place starts last → BeginsWithEntry text (drop place bytes) → number < room_for bytes count
 has_room count number place bytes starts last text below so begins =
@@ -201,3 +197,13 @@ indexed count place bytes starts last begins so end =
       file = record { lawful = subst AreTexts (sym texts) so.good; bytes_are = file ∙ ap dictionary_file (sym texts) };
       starts_are = so.starts_are ∙ ap (starts_from 16) (sym texts);
     }
+
+-- the text that was read before
+pub text_is : (text : Text) (bytes : List ℕ) (said : ℕ) → BeginsWithEntry text bytes → said ≡ from_le_bytes w32 (take 4 bytes) → take said (drop 4 bytes) ≡ text
+text_is text bytes said begins is =
+    let shows = shows_text text bytes (drop (4 + length text) bytes) begins.lawful begins.bytes_are in
+    ap (λ n. take n (drop 4 bytes)) (is ∙ shows.said) ∙ shows.body
+
+pub said_within : (text : Text) (bytes : List ℕ) (said : ℕ) → BeginsWithEntry text bytes → said ≡ from_le_bytes w32 (take 4 bytes) → 4 + said ≤ length bytes
+said_within text bytes said begins is =
+    omega (arith, begins.within, is, (shows_text text bytes (drop (4 + length text) bytes) begins.lawful begins.bytes_are).said)

@@ -4,6 +4,7 @@ pub mod TextLemmas
 pub mod DictionaryFileLemmas
 pub mod DictionaryLaws
 pub mod DictionaryReadLemmas
+pub mod ShortTextLemmas
 pub mod DictionarySearchLemmas
 pub mod DictionaryMakingLemmas
 pub mod LawfulLemmas

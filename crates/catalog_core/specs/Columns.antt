@@ -1,6 +1,7 @@
 -- The tables and columns of a schema by number, and lists of those that are needed.
 use Rattle.std.specs.Prelude.{ℕ, ◌<◌, Bool, ◌&&◌, ◌||◌, ◌==◌, nat_lt, List, [], ◌∷◌, map, filter, length, Option, option_map, slice_get, unwrap_or, IsTrue, IsSome}
-use Rattle.std.specs.List.{AllByRecursion, AllPairs, Contains, flat_map, range_with_len}
+use Rattle.std.specs.List.{AllByRecursion, AllPairs, Contains, flat_map, position, range_with_len}
+use Rattle.std.specs.Str.{bytes_eq}
 use Rattle.definitions_outcomes.specs.Computed.{and_then}
 use Rattle.catalog_core.specs.declared.schemas.ColumnDef.{ColumnDef}
 use Rattle.catalog_core.specs.declared.schemas.TableDef.{TableDef}
@@ -14,6 +15,10 @@ table_at schema table = slice_get schema.tables table
 
 abbrev pub column_at : Schema → ColumnId → Option ColumnDef
 column_at schema id = and_then (table_at schema id.table) (λ table. slice_get table.columns id.column)
+
+-- the number of the table of a name, if there is one
+abbrev pub table_named : Schema → List ℕ → Option ℕ
+table_named schema name = position (λ table. bytes_eq name table.name) schema.tables
 
 -- whether a column comes before another in the schema
 abbrev pub comes_before : ColumnId → ColumnId → Bool

@@ -1,5 +1,5 @@
 -- What a reader of a dictionary file knows so far.
-use Rattle.std.specs.Prelude.{◌≡◌, ℕ, ◌+◌, ◌≤◌, Bool, true, List, [], ◌∷◌, ◌++◌, length, drop, Option, Some, None}
+use Rattle.std.specs.Prelude.{◌≡◌, ℕ, ◌+◌, ◌-◌, ◌/◌, ◌≤◌, min, Bool, true, List, [], ◌∷◌, ◌++◌, length, drop, Option, Some, None}
 use Rattle.definitions_blocks.specs.Columns.{max_rows}
 use Rattle.catalog_core.specs.Texts.{Text, IsText, is_below}
 use Rattle.catalog_core.specs.Indexed.{starts_from}
@@ -31,6 +31,10 @@ pub record BeginsWithEntry (text : Text) (bytes : List ℕ) : Type 0 where
   pub within : 4 + length text ≤ length bytes
   pub bytes_are : bytes ≡ entry_of text ++ drop (4 + length text) bytes
 
+-- they begin with that of some text
+abbrev pub BeginsWithSome : List ℕ → Type 0
+BeginsWithSome bytes = (text : Text) × BeginsWithEntry text bytes
+
 -- they begin with none, and with none of a text that may come after the last one
 abbrev pub LacksText : List ℕ → Type 0
 LacksText bytes = (text : Text) (more : List ℕ) → IsText text → bytes ≡ entry_of text ++ more → ⊥
@@ -48,3 +52,7 @@ pub record ReadSo (bytes : List ℕ) (number place : ℕ) (starts : List ℕ) (l
   pub entries_are : drop 16 bytes ≡ entries_of texts ++ drop place bytes
   pub starts_are : starts ≡ starts_from 16 texts
   pub last_is : last ≡ last_of texts
+
+-- how many starts memory is taken for: no more than the bytes have room for
+abbrev pub room_for : List ℕ → ℕ → ℕ
+room_for bytes count = min ((length bytes - 16) / 4) count

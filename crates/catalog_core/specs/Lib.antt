@@ -6,6 +6,7 @@ pub mod Columns
 pub mod Dictionaries
 pub mod Indexed
 pub mod DictionaryReading
+pub mod ShortTexts
 pub mod DictionarySearch
 pub mod DictionaryMaking
 pub mod CountedColumns

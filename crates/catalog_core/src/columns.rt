@@ -1,11 +1,13 @@
 //! The tables and columns of a schema by number, and lists of those that are needed.
 
-ghost use Rattle.std.specs.Prelude.{◌≡◌, ◌<◌, ◌++◌, length, IfOk, OnOk};
+ghost use Rattle.std.specs.Prelude.{◌≡◌, ◌<◌, ◌++◌, length, IfOk, IfSome, OnOk};
+ghost use Rattle.std.specs.List.{position};
+ghost use Rattle.std.specs.Str.{bytes_eq};
 ghost use Rattle.catalog_core.specs.LawfulSchemas.{IsSchema};
 ghost use Rattle.catalog_core.specs.CountedColumns.{counted_columns};
-ghost use Rattle.catalog_core.specs.Columns.{IsNeeds, needs_of_table, needs_of_all};
+ghost use Rattle.catalog_core.specs.Columns.{IsNeeds, table_named, needs_of_table, needs_of_all};
 
-use crate::schemas::Schema;
+use crate::schemas::{Schema, TableDef};
 use std::alloc::{AllocError, Global};
 use stream_core::List;
 
@@ -31,6 +33,27 @@ fn push_columns(columns: &mut Vec<ColumnId>, table: u32, count: u32) -> Result<(
         columns.push(ColumnId { table, column })?;
     }
     Ok(())
+}
+
+/// The place of the table of a name.
+fn place_named(tables: &[TableDef], name: &str) -> Option<usize>
+    ensures { result ≡ position (λ table. bytes_eq name.now table.name) tables.now }
+{
+    tables.iter().position(|table| name == table.name.as_str())
+}
+
+impl Schema {
+    /// The number of the table of a name.
+    pub fn table_named(&self, name: &str) -> Option<u32>
+        requires { IsSchema self.now }
+        ensures number { result ≡ table_named self.now name.now }
+        ensures within { IfSome result (λ table. table < length self.now.tables) }
+    {
+        match place_named(self.tables.as_slice(), name) {
+            Some(table) => Some(table as u32),
+            None => None,
+        }
+    }
 }
 
 impl Needs {

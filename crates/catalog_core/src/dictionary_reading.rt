@@ -5,9 +5,10 @@ ghost use Rattle.std.specs.Int.{from_le_bytes, w32, w64};
 ghost use Rattle.definitions_blocks.specs.Words.{word_bytes};
 ghost use Rattle.catalog_core.specs.Indexed.{IsIndexed};
 ghost use Rattle.catalog_core.specs.Dictionaries.{dictionary_head, HasDictionaryFault};
-ghost use Rattle.catalog_core.specs.DictionaryReading.{BeginsWithCount, LacksCount, may_follow, BeginsWithEntry, LacksText, LacksNext, ReadSo};
+ghost use Rattle.catalog_core.specs.DictionaryReading.{BeginsWithCount, LacksCount, may_follow, BeginsWithEntry, LacksText, LacksNext, BeginsWithSome, ReadSo};
 
 use crate::errors::DictError;
+use crate::short_texts::{LastEntry, read_short_texts};
 use block_core::MAX_ROWS;
 use std::alloc::Global;
 
@@ -107,13 +108,20 @@ fn read_entries(alloc: Global, bytes: &[u8], count: u64) -> Result<Entries, Dict
     let mut starts = Vec::with_capacity(alloc, most.min(count as usize))?;
     let mut end = HEAD_LEN;
     let mut last = None;
-    for entry in 0..count {
+    while (starts.len() as u64) < count {
         let Some(text) = next_text(rest_from(bytes, end), last) else {
-            return Err(DictError::BadEntry { entry });
+            return Err(DictError::BadEntry {
+                entry: starts.len() as u64,
+            });
         };
         starts.push_reserved(end as u64);
-        end += LENGTH_LEN + text.len();
-        last = Some(text);
+        let read = LastEntry {
+            start: end,
+            end: end + (LENGTH_LEN + text.len()),
+        };
+        let found = read_short_texts(bytes, count, &mut starts, read);
+        last = Some(text_read(rest_from(bytes, found.start)));
+        end = found.end;
     }
     Ok(Entries { starts, end })
 }
@@ -199,4 +207,14 @@ pub fn first_bytes(bytes: &[u8], count: usize) -> &[u8]
     ensures { result.now ≡ take count (drop 4 bytes.now) }
 {
     &bytes[LENGTH_LEN..LENGTH_LEN + count]
+}
+
+/// The text of the first entry, which was read before.
+fn text_read(bytes: &[u8]) -> &str
+    requires { BeginsWithSome bytes.now }
+    ensures { BeginsWithEntry result.now bytes.now }
+{
+    let len = first_length(bytes);
+    let text = first_bytes(bytes, len);
+    unsafe { std::str::from_utf8_unchecked(text) }
 }

@@ -13,6 +13,7 @@ mod members;
 mod names;
 mod schema_reading;
 mod schemas;
+mod short_texts;
 
 pub use columns::{ColumnId, Needs};
 pub use dictionary::Dictionary;
