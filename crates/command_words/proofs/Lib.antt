@@ -1,0 +1,3 @@
+pub mod MatchingLemmas
+pub mod NameLemmas
+pub mod Read

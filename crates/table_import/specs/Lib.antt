@@ -1,0 +1,6 @@
+pub mod Steps
+pub mod Records
+pub mod Imports
+pub mod TableData
+pub mod Reads
+pub mod Growing
