@@ -1,2 +1,5 @@
-mod LineLemmas
+pub mod LineLemmas
+mod RecordLemmas
+mod PrintLemmas
 mod CheckExamples
+mod ExportExamples

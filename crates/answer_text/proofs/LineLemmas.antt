@@ -1,15 +1,16 @@
 -- Lines of tables and columns, one after the other.
-use Rattle.std.proofs.Common.{◌≡◌, ◌∙◌, ◌<◌, ◌≤◌, ◌+◌, ℕ, zero, suc, List, [], ◌∷◌, ◌++◌, Option, Some, None, refl, sym, ap, length, drop, get_or, flat_map, option_map, unwrap_or, slice_get, arith, drop_of_length-le}
+use Rattle.std.proofs.Common.{◌≡◌, ◌∙◌, ◌<◌, ◌≤◌, ◌+◌, ℕ, zero, suc, List, [], ◌∷◌, ◌++◌, Option, Some, None, refl, sym, ap, length, drop, take, get_or, flat_map, option_map, unwrap_or, slice_get, arith, drop_of_length-le}
 use Rattle.std.specs.List.{zip}
-use Rattle.std.proofs.lemmas.List.{drop_more, append_assoc, append-nil, length-map}
+use Rattle.std.proofs.lemmas.List.{drop_more, append_assoc, append-nil, length-map, take_more}
 use Rattle.std.proofs.lemmas.Option.{slice_get-map, slice_get-get_or}
 use Rattle.std.proofs.lemmas.Slice.Zip.{length-zip, get_or-zip}
 use Rattle.definitions_outcomes.specs.Computed.{and_then}
 use Rattle.catalog_core.specs.declared.schemas.TableDef.{TableDef}
 use Rattle.catalog_core.specs.declared.schemas.Schema.{Schema}
-use Rattle.table_core.specs.Tables.{Stored, TableState, column_of}
+use Rattle.table_core.specs.Tables.{Stored, TableState, stored_at, column_of}
 use Rattle.table_core.specs.Held.{outline_of, outline_in, AreTablesOf}
 use Rattle.answer_text.specs.Checks.{table_lines}
+use Rattle.answer_text.specs.Exports.{columns_there}
 use Rattle.answer_text.specs.HeldColumns.{columns_at, lines_at}
 
 -- the lines of two lists side by side, from a place on
@@ -44,14 +45,32 @@ held_at (slot ∷ slots) zero = refl
 held_at (slot ∷ slots) (suc place) = held_at slots place
 
 held_in : (found : Option TableState) (place : ℕ)
-    → option_map (λ (stored : Stored). stored.column) (and_then (and_then found (λ one. slice_get one.columns place)) (λ slot. slot))
-    ≡ option_map (λ (stored : Stored). stored.column) (get_or (unwrap_or (option_map (λ (one : TableState). one.columns) found) []) place None)
+    → and_then (and_then found (λ one. slice_get one.columns place)) (λ slot. slot) ≡ get_or (unwrap_or (option_map (λ (one : TableState). one.columns) found) []) place None
 held_in None place = refl
-held_in (Some one) place = ap (option_map (λ (stored : Stored). stored.column)) (held_at one.columns place)
+held_in (Some one) place = held_at one.columns place
+
+pub slot_held : (tables : List TableState) (table place : ℕ) → stored_at tables (record { table = table; column = place }) ≡ get_or (columns_at tables table) place None
+slot_held tables table place = held_in (slice_get tables table) place
 
 pub column_held : (tables : List TableState) (table place : ℕ)
     → column_of tables (record { table = table; column = place }) ≡ option_map (λ (stored : Stored). stored.column) (get_or (columns_at tables table) place None)
-column_held tables table place = held_in (slice_get tables table) place
+column_held tables table place = ap (option_map (λ (stored : Stored). stored.column)) (slot_held tables table place)
+
+-- the columns that are there, one after the other
+
+pub there-append : (slots : List (Option Stored)) (slot : Option Stored) → columns_there (slots ++ slot ∷ []) ≡ columns_there slots ++ columns_there (slot ∷ [])
+there-append [] slot = refl
+there-append (None ∷ slots) slot = there-append slots slot
+there-append (Some stored ∷ slots) slot = ap (λ rest. stored ∷ rest) (there-append slots slot)
+
+-- one column more, if it is there
+pub there-more : (tables : List TableState) (table place : ℕ) → place < length (columns_at tables table)
+    → columns_there (take (place + 1) (columns_at tables table))
+    ≡ columns_there (take place (columns_at tables table)) ++ columns_there (stored_at tables (record { table = table; column = place }) ∷ [])
+there-more tables table place within =
+    let slots = columns_at tables table in
+    ap columns_there (take_more slots place None within) ∙ there-append (take place slots) (get_or slots place None)
+    ∙ ap (λ (slot : Option Stored). columns_there (take place slots) ++ columns_there (slot ∷ [])) (sym (slot_held tables table place))
 
 -- tables of a schema have its number of tables, and each its number of columns
 

@@ -8,3 +8,10 @@ pub mod StandingOpensLemmas
 pub mod StepLemmas
 pub mod FillLemmas
 pub mod LoopLemmas
+pub mod FileNameLemmas
+pub mod SameRowsLemmas
+pub mod PutLemmas
+pub mod SavingLemmas
+pub mod SaveEndLemmas
+pub mod HeldFilesLemmas
+pub mod SavedLemmas

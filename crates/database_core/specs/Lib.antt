@@ -5,3 +5,6 @@ pub mod Standing
 pub mod Opens
 pub mod Filling
 pub mod Steps
+pub mod TableFiles
+pub mod Saving
+pub mod SavingSteps

@@ -1,4 +1,4 @@
-//! Why a database does not open.
+//! Why a database does not open, and why a table is not saved.
 
 use catalog_core::DictError;
 use column_file::ColumnError;
@@ -39,4 +39,15 @@ impl From<AllocError> for OpenError {
     fn from(_refused: AllocError) -> OpenError {
         OpenError::Memory
     }
+}
+
+/// Why a table was not saved.
+#[derive(Clone, Copy, Debug, PartialEq, Eq)]
+pub enum SaveTableError {
+    /// The load of the now file or the save of a data file failed. The rows that stood before stand still.
+    Store,
+    /// The save of the now file failed. All data files are written; of the now file nothing is said.
+    Switch,
+    /// Memory was refused. The rows that stood before stand still.
+    Memory,
 }

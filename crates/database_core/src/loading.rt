@@ -10,12 +10,12 @@ ghost use Rattle.database_core.specs.Steps.{NamesNone, NamesTable};
 
 use crate::errors::OpenError;
 use crate::file_names::now_file_name;
-use crate::now_files::{Now, read_now};
+use crate::now_files::{NOW_LEN, Now, read_now};
 use std::alloc::Global;
 use stream_core::{Bytes, FileName, LoadError, Name, Store};
 
 /// How many bytes are read of a now file at most, and of a column file and a dictionary file.
-const MAX_NOW_FILE: u64 = 13;
+pub(crate) const MAX_NOW_FILE: u64 = NOW_LEN as u64;
 
 const MAX_DATA_FILE: u64 = 4_294_967_296;
 

@@ -34,7 +34,7 @@ pub struct Now {
 }
 
 /// How many bytes a now file has, and where its row count begins.
-const NOW_LEN: usize = 13;
+pub(crate) const NOW_LEN: usize = 13;
 
 const ROWS_AT: usize = 5;
 
@@ -62,7 +62,7 @@ fn rows_in(bytes: &[u8]) -> u64
 
 /// The now file of a slot and a row count.
 #[tactic(auto, unfolding(definitions_blocks::specs::Words::word_bytes))]
-fn now_file(slot: Slot, rows: u64) -> [u8; 13]
+pub(crate) fn now_file(slot: Slot, rows: u64) -> [u8; 13]
     ensures { result ≡ now_file (now_view (record { slot = slot; rows = rows })) }
 {
     let [a, b, c, d, e, f, g, h] = rows.to_le_bytes();
