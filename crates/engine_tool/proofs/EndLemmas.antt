@@ -1,10 +1,11 @@
 -- Which end of a command has which status.
 use Rattle.std.proofs.Common.{◌≡◌, ◌≢◌, ℕ, ◌⊎◌, inl, inr, List, Result, Ok, Err, refl, arith}
 use Rattle.std.specs.Prelude.{OnOk}
-use Rattle.engine_tool.specs.Refusals.{Kind, query_text, database, sum, status_of_kind}
-use Rattle.engine_tool.specs.Stops.{refusal_of, status_of}
-use Rattle.engine_tool.specs.declared.stops.Stop.{Stop}
-use Rattle.engine_tool.specs.declared.stops.Stop.TheVariants as stop
+use Rattle.table_commands.specs.Refusals.{Kind, query_text, database, sum, import_text, status_of_kind}
+use Rattle.table_commands.specs.Stops.{refusal_of}
+use Rattle.engine_tool.specs.Ends.{status_of}
+use Rattle.table_commands.specs.declared.stops.Stop.{Stop}
+use Rattle.table_commands.specs.declared.stops.Stop.TheVariants as stop
 
 -- no refusal has the status of an answer, of usage, of a fault or of want of memory
 pub record IsNamed (status : ℕ) : Type 0 where
@@ -17,6 +18,7 @@ pub is_named : (kind : Kind) → IsNamed (status_of_kind kind)
 is_named query_text = record { done = omega arith; use_it = omega arith; fault = omega arith; want = omega arith }
 is_named database = record { done = omega arith; use_it = omega arith; fault = omega arith; want = omega arith }
 is_named sum = record { done = omega arith; use_it = omega arith; fault = omega arith; want = omega arith }
+is_named import_text = record { done = omega arith; use_it = omega arith; fault = omega arith; want = omega arith }
 
 -- which end has a status
 pub at_two : (end : Result (List ℕ) Stop) → status_of end ≡ 2 → end ≡ Err stop.Usage

@@ -1,10 +1,9 @@
 pub mod TextLemmas
 pub mod OneQueryLemmas
 pub mod OneReplyLemmas
-pub mod StepLemmas
+pub mod FaultLemmas
 pub mod DidLemmas
-pub mod CheckLemmas
-pub mod CheckLaws
+pub mod SavedLemmas
 pub mod EndLemmas
 pub mod EndedLemmas
 pub mod RunLemmas

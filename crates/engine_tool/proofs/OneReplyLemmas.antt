@@ -1,29 +1,25 @@
 -- A command has one reply at most.
-use Rattle.std.proofs.Common.{◌≡◌, ℕ, List, Option, Some, None, Result, Ok, Err, sym, ap, ◌∙◌}
+use Rattle.std.proofs.Common.{ℕ, List, Option, Some, None, Ok, sym, ap, ◌∙◌}
 use Rattle.definitions_columns.specs.FileFaults.{HasFileFault}
 use Rattle.definitions_columns.proofs.FaultLaws.{one_fault, no_fault}
 use Rattle.definitions_columns.proofs.FileLaws as laws
-use Rattle.definitions_outcomes.specs.Outcomes.{Gives, OneOr, Then, HasOneEnd}
-use Rattle.definitions_outcomes.proofs.OutcomeLaws.{same_value, same_refusal, Gives-one, OneOr-one, OneOrFault-one, Then-one}
+use Rattle.definitions_outcomes.specs.Outcomes.{Outcomes, Gives, OneOr, Then, HasOneEnd}
+use Rattle.definitions_outcomes.proofs.OutcomeLaws.{Gives-one, OneOr-one, OneOrFault-one, Then-one}
 use Rattle.stream_core.specs.Files.{Files}
 use Rattle.stream_core.specs.Names.{column_file_name}
-use Rattle.catalog_core.specs.Columns.{needs_of_all}
-use Rattle.catalog_core.specs.Schemas.{SchemaOf}
-use Rattle.catalog_core.specs.declared.schemas.Schema.{Schema}
-use Rattle.catalog_core.proofs.SchemaLaws.{one_schema}
 use Rattle.database_core.specs.NowFiles.{Now}
-use Rattle.database_core.specs.Opening.{Opened, OneOpening}
-use Rattle.answer_text.specs.Checks.{check_text}
-use Rattle.engine_tool.specs.Checking.{schema_bytes, SchemaIn, OpenedIn, CheckOf, CheckReply, bad_schema, bad_database}
-use Rattle.engine_tool.specs.declared.commands.Command.TheVariants as command
-use Rattle.engine_tool.specs.declared.commands.Command.{Command}
+use Rattle.table_commands.specs.Checking.{CheckReply}
+use Rattle.table_commands.specs.Exporting.{ExportReply}
+use Rattle.table_commands.specs.Saving.{unchanged}
+use Rattle.table_commands.proofs.OneReplyLemmas.{CheckReply-one, ExportReply-one, ReformatReply-one}
+use Rattle.table_commands.proofs.OneImportLemmas.{ImportReply-one}
+use Rattle.command_words.specs.Commands as command
+use Rattle.command_words.specs.Commands.{Command}
+use Rattle.command_words.specs.Words.{help_text}
 use Rattle.engine_tool.specs.Queries.{Condition, Query, Spells, max_query}
-use Rattle.engine_tool.specs.Refusals.{bad_query, bad_file, limited, fault_text}
-use Rattle.engine_tool.specs.Replies.{Means, OneReply, HoldsColumn, ValuesOf, RowsOf, ColumnOf, TestedOf, LoadedOf, QueryOf, AnswerOf, now_of, column_bytes, for_rows, kept_in, answer_over, unchanged, reply_of}
+use Rattle.table_commands.specs.Refusals.{Refusal, bad_query, bad_file, limited, fault_text}
+use Rattle.engine_tool.specs.Replies.{Unchanged, Means, OneReply, QueryReply, HoldsColumn, ValuesOf, RowsOf, ColumnOf, TestedOf, LoadedOf, QueryOf, AnswerOf, now_of, column_bytes, for_rows, kept_in, answer_over, reply_of}
 use Rattle.engine_tool.proofs.OneQueryLemmas.{Spells-one}
-
-ok_not_err : {A E : Type 0} (value : A) (refusal : E) → ◌≡◌ {A = Result A E} (Ok value) (Err refusal) → ⊥
-ok_not_err value refusal same = cc
 
 QueryOf-one : (text : List ℕ) → HasOneEnd (QueryOf text)
 QueryOf-one text =
@@ -63,37 +59,21 @@ AnswerOf-one : (files : Files) (query : Query) → HasOneEnd (AnswerOf files que
 AnswerOf-one files query =
     Then-one (LoadedOf files query) (λ loaded. Gives (answer_over (kept_in query.condition loaded))) (LoadedOf-one files query) (λ loaded. Gives-one (answer_over (kept_in query.condition loaded)))
 
--- a text is one schema, or has one first refusal
-SchemaIn-one : (bytes : List ℕ) → HasOneEnd (SchemaIn bytes)
-SchemaIn-one bytes =
-    OneOrFault-one (λ schema. SchemaOf bytes (Ok schema)) (λ refusal. SchemaOf bytes (Err refusal)) bad_schema
-    (λ schema other p q. same_value schema other (one_schema bytes (Ok schema) (Ok other) p q))
-    (λ refusal other p q. same_refusal refusal other (one_schema bytes (Err refusal) (Err other) p q))
-    (λ schema refusal p q. ok_not_err schema refusal (one_schema bytes (Ok schema) (Err refusal) p q))
+-- what is written of a step that has one end
+Unchanged-one : (files : Files) (step : Outcomes (List ℕ) Refusal) → HasOneEnd step → HasOneEnd (Unchanged files step)
+Unchanged-one files step one end other p q = p.2 ∙ ap (unchanged files) (one p.0 q.0 p.1 q.1) ∙ sym q.2
 
--- files open in one way, or have one first fault
-OpenedIn-one : OneOpening → (files : Files) (schema : Schema) → HasOneEnd (OpenedIn files schema)
-OpenedIn-one law files schema =
-    let needs = needs_of_all schema in
-    OneOrFault-one (λ tables. Opened files schema needs (Ok tables)) (λ error. Opened files schema needs (Err error)) (bad_database schema)
-    (λ tables others p q. same_value tables others (law files schema needs (Ok tables) (Ok others) p q))
-    (λ error other p q. same_refusal error other (law files schema needs (Err error) (Err other) p q))
-    (λ tables error p q. ok_not_err tables error (law files schema needs (Ok tables) (Err error) p q))
+Means-one : (command : Command) (files : Files) (text : List ℕ) → HasOneEnd (Means command files text)
+Means-one (command.import table) files text = ImportReply-one files table text
+Means-one (command.export table) files text = Unchanged-one files (ExportReply files table) (ExportReply-one files table)
+Means-one (command.reformat table) files text = ReformatReply-one files table
+Means-one command.check files text = Unchanged-one files (CheckReply files) (CheckReply-one files)
+Means-one command.explain files text = λ end other p q. absurd p
+Means-one command.help files text = Unchanged-one files (Gives (Ok help_text)) (Gives-one (Ok help_text))
+Means-one (command.query options) files text =
+    Unchanged-one files (QueryReply files text) (Then-one (QueryOf text) (AnswerOf files) (QueryOf-one text) (AnswerOf-one files))
+Means-one (command.demo options) files text = λ end other p q. absurd p
 
-CheckOf-one : OneOpening → (files : Files) (schema : Schema) → HasOneEnd (CheckOf files schema)
-CheckOf-one law files schema =
-    Then-one (OpenedIn files schema) (λ tables. Gives (Ok (check_text schema tables))) (OpenedIn-one law files schema) (λ tables. Gives-one (Ok (check_text schema tables)))
-
-CheckReply-one : OneOpening → (files : Files) → HasOneEnd (CheckReply files)
-CheckReply-one law files =
-    Then-one (Gives (schema_bytes files)) (λ bytes. Then (SchemaIn bytes) (CheckOf files)) (Gives-one (schema_bytes files))
-    (λ bytes. Then-one (SchemaIn bytes) (CheckOf files) (SchemaIn-one bytes) (CheckOf-one law files))
-
-Means-one : OneOpening → (command : Command) (files : Files) (text : List ℕ) → HasOneEnd (Means command files text)
-Means-one law command.Query files text end other p q =
-    p.2 ∙ ap (unchanged files) (Then-one (QueryOf text) (AnswerOf files) (QueryOf-one text) (AnswerOf-one files) p.0 q.0 p.1 q.1) ∙ sym q.2
-Means-one law command.Check files text end other p q = p.2 ∙ ap (unchanged files) (CheckReply-one law files p.0 q.0 p.1 q.1) ∙ sym q.2
-
-pub one_reply : OneOpening → OneReply
-one_reply law None files text reply other p q = p ∙ sym q
-one_reply law (Some command) files text reply other p q = p.2 ∙ ap (reply_of files) (Means-one law command files text p.0 q.0 p.1 q.1) ∙ sym q.2
+pub one_reply : OneReply
+one_reply None files text reply other p q = p ∙ sym q
+one_reply (Some command) files text reply other p q = p.2 ∙ ap (reply_of files) (Means-one command files text p.0 q.0 p.1 q.1) ∙ sym q.2

@@ -3,13 +3,13 @@ use Rattle.std.proofs.Common.{◌≡◌, ◌≢◌, ℕ, ◌⊎◌, inl, inr, Li
 use Rattle.std.specs.Prelude.{codes}
 use Rattle.std.specs.Io.KnownBytes.{IsAtEnd}
 use Rattle.stream_core.specs.Files.{Files}
-use Rattle.engine_tool.specs.declared.commands.Command.{Command}
+use Rattle.command_words.specs.Commands.{Command}
 use Rattle.engine_tool.specs.Commands.{saves}
 use Rattle.engine_tool.specs.Replies.{Reply, Replies}
 use Rattle.engine_tool.specs.Promises.{Outside, Told, FilesAre, SomeRose, NoneFailed, NoneInside, IsCutOff, Took, Says, IsFault, store, input, reply, memory, AfterRefusal, same, switch, line, Promises}
-use Rattle.engine_tool.specs.Stops.{status_of, text_of, IsWritten, whole, cut, DidAny}
-use Rattle.engine_tool.specs.declared.stops.Stop.{Stop}
-use Rattle.engine_tool.specs.declared.stops.Stop.TheVariants as stop
+use Rattle.engine_tool.specs.Ends.{status_of, text_of, IsWritten, whole, cut, DidAny}
+use Rattle.table_commands.specs.declared.stops.Stop.{Stop}
+use Rattle.table_commands.specs.declared.stops.Stop.TheVariants as stop
 use Rattle.engine_tool.proofs.EndLemmas.{at_two, at_three, at_six, at_zero, fault, want, other, sort_of}
 use Rattle.engine_tool.proofs.EndedLemmas.{Ended, ended}
 
@@ -32,7 +32,7 @@ module _ (command : Option Command) (before after : Outside) (end : Result (List
       → AfterRefusal command table before after files held
   kept_said table files held names told_before told_after not_done = elim (it.keeps table files held names told_before told_after not_done) [
     | inl rows_same ↦ same rows_same
-    | inr moved ↦ switch moved.0 moved.1
+    | inr moved ↦ switch moved.0 moved.1 moved.2 moved.3
   ]
 
   some_rose : status_of end ≡ 3 → SomeRose before after
@@ -57,7 +57,10 @@ module _ (command : Option Command) (before after : Outside) (end : Result (List
     promises_whole : Promises command before after (status_of end)
     promises_whole = record {
       reply = whole_reply;
-      usage = λ e. inl (ap status_of (it.usage e), subst (Took before after) (ap text_of (it.usage e)) took);
+      usage = λ e. elim (it.usage e) [
+        | inl is ↦ inl (ap status_of is, subst (Took before after) (ap text_of is) took)
+        | inr is ↦ inr (inr (ap status_of is))
+      ];
       only_usage = λ e. it.only_usage (at_two end e);
       quiet = it.quiet;
       whole = λ reads e. at_zero end (IsAtEnd after.inside.input) e (it.whole reads);
@@ -91,14 +94,20 @@ module _ (command : Option Command) (before after : Outside) (end : Result (List
 
     kept_cut : (table : List ℕ) (files held : Files) → saves command ≡ Some table → before.inside.files ≡ Some files → after.inside.files ≡ Some held → AfterRefusal command table before after files held
     kept_cut table files held names told_before told_after = elim (is_zero (status_of end)) [
-      | inl e ↦ line cut_off.fault (it.leaves files held told_before told_after e)
+      | inl e ↦ line cut_off.fault (it.leaves table files held names told_before told_after e)
       | inr not_done ↦ kept_said table files held names told_before told_after not_done
     ]
 
     promises_cut : Promises command before after 3
     promises_cut = record {
       reply = λ files text told not_fault not_memory. absurd (not_fault refl);
-      usage = λ e. inr (inl (refl, inl (subst (IsCutOff before after) (ap text_of (it.usage e)) cut_off)));
+      usage = λ e. inr (inl (
+        refl,
+        elim (it.usage e) [
+          | inl is ↦ inl (subst (IsCutOff before after) (ap text_of is) cut_off)
+          | inr is ↦ inr (subst (IsCutOff before after) (ap text_of is) cut_off)
+        ],
+      ));
       only_usage = λ e. absurd (omega (arith, e));
       quiet = it.quiet;
       whole = λ reads e. absurd (omega (arith, e));

@@ -2,12 +2,8 @@ pub mod Tokens
 pub mod Queries
 pub mod Texts
 pub mod Views
-pub mod TableFiles
 pub mod Commands
-pub mod Refusals
 pub mod Answers
-pub mod Checking
 pub mod Replies
 pub mod Promises
-pub mod Stops
-pub mod CheckStops
+pub mod Ends

@@ -4,10 +4,16 @@ use Rattle.std.specs.Io.KnownBytes.{Appends, IsAtEnd}
 use Rattle.stream_core.specs.Faults.{Rose}
 use Rattle.stream_core.specs.Files.{Files}
 use Rattle.stream_core.specs.Names.{now_file_name}
-use Rattle.engine_tool.specs.TableFiles.{Same, SameBut, SameRows, WritesTable}
-use Rattle.engine_tool.specs.declared.commands.Command.{Command}
+use Rattle.command_words.specs.Commands.{Command}
+use Rattle.table_core.specs.Tables.{Stored}
+use Rattle.database_core.specs.Saving.{IsWritten}
+use Rattle.database_core.specs.TableFiles.{Same, SameBut, SameRows, WritesTable}
+use Rattle.table_commands.specs.declared.databases.Found.{Found}
+use Rattle.table_commands.specs.Databases.{TableStep, definition_of}
+use Rattle.table_commands.specs.Refusals.{usage_line}
+use Rattle.table_commands.specs.Saving.{Answer}
 use Rattle.engine_tool.specs.Commands.{reads_files, reads_input, saves}
-use Rattle.engine_tool.specs.Replies.{Reply, Replies, Answer, Means, RefusesText, RefusesFiles, usage_line}
+use Rattle.engine_tool.specs.Replies.{Reply, Replies, Means, RefusesText, RefusesFiles}
 
 -- What contracts see of a store and an input: the files and the bytes that are left, if they are told, and how many calls of
 -- each have failed.
@@ -33,10 +39,10 @@ abbrev pub FilesAre : Option Files → Files → Type 0
 FilesAre None files = ⊥
 FilesAre (Some held) files = Same held files
 
--- the files that may change: none, or some of the table that is saved
+-- the files that may change: none, or those that a save of the table writes, where the schema has such a table
 abbrev pub MayChange : Option (List ℕ) → Files → List ℕ → Type 0
 MayChange None files name = ⊥
-MayChange (Some table) files name = WritesTable table files name
+MayChange (Some table) files name = (found : Found) × TableStep files table (Ok found) × WritesTable (definition_of found) files name
 
 abbrev pub ChangesOnly : Option (List ℕ) → Option Files → Option Files → Type 0
 ChangesOnly saved None after = after ≡ None
@@ -101,16 +107,21 @@ abbrev pub Leaves : Option Command → Files → List ℕ → Files → Type 0
 Leaves None files text held = ⊥
 Leaves (Some command) files text held = (answer : Answer) × Means command files text (Ok answer) × Same answer.files held
 
+-- The files are those with the named table saved: of some columns; and of the columns of the command's answer, if what it reads is told.
+pub record HaveSaved (command : Option Command) (table : List ℕ) (before : Inside) (files full : Files) : Type 0 where
+  pub found : Found
+  pub named : TableStep files table (Ok found)
+  pub columns : List Stored
+  pub written : IsWritten files (definition_of found) columns full
+  pub leaves : (text : List ℕ) → Told command before files text → Leaves command files text full
+
 -- What became of a table where the command that saves it did not end with status 0: its rows stand as they did; or all was
 -- saved but for the now file, whose save failed; or all was saved, and the closing line was not taken.
 pub data AfterRefusal (command : Option Command) (table : List ℕ) (before after : Outside) (files held : Files) : Type 0 where
-  same : SameRows table held files → AfterRefusal command table before after files held
-  switch : StoreRose before.inside after.inside
-      → ((text : List ℕ) → Told command before.inside files text → (full : Files) × Leaves command files text full × SameBut (now_file_name table) held full)
-      → AfterRefusal command table before after files held
-  line : OutputRose before after
-      → ((text : List ℕ) → Told command before.inside files text → (full : Files) × Leaves command files text full × Same held full)
-      → AfterRefusal command table before after files held
+  same : SameRows held files → AfterRefusal command table before after files held
+  switch : StoreRose before.inside after.inside → (full : Files) → (saved : HaveSaved command table before.inside files full)
+      → SameBut (now_file_name (definition_of saved.found).name) held full → AfterRefusal command table before after files held
+  line : OutputRose before after → HaveSaved command table before.inside files held → AfterRefusal command table before after files held
 
 -- The promises of a call whose words denote this command, or none.
 pub record Promises (command : Option Command) (before after : Outside) (status : ℕ) : Type 0 where

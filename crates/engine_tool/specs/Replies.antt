@@ -11,11 +11,18 @@ use Rattle.stream_core.specs.Names.{now_file_name, column_file_name}
 use Rattle.database_core.specs.NowFiles.{Now, now_in}
 use Rattle.database_core.specs.Opening.{max_data_file}
 use Rattle.engine_tool.specs.Answers.{answer_text}
-use Rattle.engine_tool.specs.declared.commands.Command.{Command}
-use Rattle.engine_tool.specs.declared.commands.Command.TheVariants as command
-use Rattle.engine_tool.specs.Checking.{CheckReply}
+use Rattle.command_words.specs.Commands as command
+use Rattle.command_words.specs.Commands.{Command}
+use Rattle.command_words.specs.Words.{help_text}
+use Rattle.table_commands.specs.Checking.{CheckReply}
+use Rattle.table_commands.specs.Databases.{TableStep}
+use Rattle.table_commands.specs.declared.databases.Found.{Found}
+use Rattle.table_commands.specs.Exporting.{ExportReply}
+use Rattle.table_commands.specs.Importing.{ImportReply}
+use Rattle.table_commands.specs.Reformatting.{ReformatReply}
+use Rattle.table_commands.specs.Saving.{Answer, unchanged}
 use Rattle.engine_tool.specs.Queries.{Condition, Query, Spells, max_query}
-use Rattle.engine_tool.specs.Refusals.{Refusal, status_of_kind, bad_query, bad_file, sum_too_wide, limited, file_of, bytes_of, fault_text}
+use Rattle.table_commands.specs.Refusals.{Refusal, status_of_kind, bad_query, bad_file, sum_too_wide, usage_line, limited, file_of, bytes_of, fault_text}
 
 -- the query of a text: the text is not too long, and spells one
 abbrev pub QueryOf : List ℕ → Outcomes Query Refusal
@@ -84,29 +91,26 @@ AnswerOf files query = Then (LoadedOf files query) (λ loaded. Gives (answer_ove
 abbrev pub QueryReply : Files → List ℕ → Outcomes (List ℕ) Refusal
 QueryReply files text = Then (QueryOf text) (AnswerOf files)
 
--- an answer: what is written, and the files afterwards
-pub record Answer : Type 0 where
-  pub text : List ℕ
-  pub files : Files
+-- the answer of a step of a command that saves nothing
+abbrev pub Unchanged : Files → Outcomes (List ℕ) Refusal → Outcomes Answer Refusal
+Unchanged files step end = (given : Result (List ℕ) Refusal) × step given × (end ≡ unchanged files given)
 
--- the answer of a command that saves nothing
-abbrev pub unchanged : Files → Result (List ℕ) Refusal → Result Answer Refusal
-unchanged files (Ok text) = Ok (record { text = text; files = files })
-unchanged files (Err refusal) = Err refusal
-
--- what a command answers
+-- what a command answers; one that is not built has no answer
 abbrev pub Means : Command → Files → List ℕ → Outcomes Answer Refusal
-Means command.Query files text end = (given : Result (List ℕ) Refusal) × QueryReply files text given × (end ≡ unchanged files given)
-Means command.Check files text end = (given : Result (List ℕ) Refusal) × CheckReply files given × (end ≡ unchanged files given)
+Means (command.import table) files text = ImportReply files table text
+Means (command.export table) files text = Unchanged files (ExportReply files table)
+Means (command.reformat table) files text = ReformatReply files table
+Means command.check files text = Unchanged files (CheckReply files)
+Means command.explain files text = λ end. ⊥
+Means command.help files text = Unchanged files (Gives (Ok help_text))
+Means (command.query options) files text = Unchanged files (QueryReply files text)
+Means (command.demo options) files text = λ end. ⊥
 
 -- what any words answer: the exit status, what is written, and the files afterwards
 pub record Reply : Type 0 where
   pub status : ℕ
   pub text : List ℕ
   pub files : Files
-
-abbrev pub usage_line : List ℕ
-usage_line = codes "usage: see morphq help\n"
 
 abbrev pub reply_of : Files → Result Answer Refusal → Reply
 reply_of files (Ok answer) = record { status = 0; text = answer.text; files = answer.files }
@@ -119,14 +123,26 @@ Replies (Some command) files text reply = (end : Result Answer Refusal) × Means
 -- the command refuses the text whatever the files hold, before it loads one
 abbrev pub RefusesText : Option Command → List ℕ → Type 0
 RefusesText None text = ⊥
-RefusesText (Some command.Query) text = (asked : Query) → QueryOf text (Ok asked) → ⊥
-RefusesText (Some command.Check) text = ⊥
+RefusesText (Some (command.import table)) text = ⊥
+RefusesText (Some (command.export table)) text = ⊥
+RefusesText (Some (command.reformat table)) text = ⊥
+RefusesText (Some command.check) text = ⊥
+RefusesText (Some command.explain) text = ⊥
+RefusesText (Some command.help) text = ⊥
+RefusesText (Some (command.query options)) text = (asked : Query) → QueryOf text (Ok asked) → ⊥
+RefusesText (Some (command.demo options)) text = ⊥
 
 -- the command refuses the files whatever the input holds, before it reads it
 abbrev pub RefusesFiles : Option Command → Files → Type 0
 RefusesFiles None files = ⊥
-RefusesFiles (Some command.Query) files = ⊥
-RefusesFiles (Some command.Check) files = (text : List ℕ) → CheckReply files (Ok text) → ⊥
+RefusesFiles (Some (command.import table)) files = (found : Found) → TableStep files table (Ok found) → ⊥
+RefusesFiles (Some (command.export table)) files = (text : List ℕ) → ExportReply files table (Ok text) → ⊥
+RefusesFiles (Some (command.reformat table)) files = (answer : Answer) → ReformatReply files table (Ok answer) → ⊥
+RefusesFiles (Some command.check) files = (text : List ℕ) → CheckReply files (Ok text) → ⊥
+RefusesFiles (Some command.explain) files = ⊥
+RefusesFiles (Some command.help) files = ⊥
+RefusesFiles (Some (command.query options)) files = ⊥
+RefusesFiles (Some (command.demo options)) files = ⊥
 
 -- a command has one reply at most
 abbrev pub OneReply : Type 0

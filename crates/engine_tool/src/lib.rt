@@ -4,17 +4,13 @@
 //! of an answer is written before all of it is made.
 #![tactic(auto)]
 
-mod checking;
-mod commands;
 mod decoding;
-mod files;
 mod laws;
 mod loading;
 mod replies;
 mod running;
-mod stops;
 mod sums;
 mod text;
 
-pub use laws::{one_reply, refusals_are_said};
+pub use laws::one_reply;
 pub use running::run;

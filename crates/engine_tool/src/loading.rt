@@ -5,19 +5,18 @@ ghost use Rattle.stream_core.specs.Files.{Files};
 ghost use Rattle.column_file.specs.Faults.{Says};
 ghost use Rattle.column_core.specs.Columns.{Shape};
 ghost use Rattle.engine_tool.specs.Replies.{now_of, ValuesOf, for_rows, ColumnOf, TestedOf, LoadedOf};
-ghost use Rattle.engine_tool.specs.Stops.{Ends, EndsAs, Computes, KeepsStore, IsInner, TakesNoMemory};
+ghost use Rattle.table_commands.specs.Stops.{Ends, EndsAs, Computes, KeepsStore, IsInner, TakesNoMemory};
 ghost use Rattle.engine_tool.specs.Texts.{condition_view, query_view};
 ghost use Rattle.database_core.specs.NowViews.{now_view};
 ghost use Rattle.engine_tool.specs.Views.{values_of, loaded_view, HasRows};
 
-use crate::files::{bytes_of, column_what, refused};
-use crate::stops::{Stop, What};
 use crate::text::{Condition, SumQuery};
 use column_core::Column;
 use column_file::{ColumnError, read_column};
 use database_core::{Now, column_file_name, now_file_name, read_now};
 use std::alloc::Global;
 use stream_core::{Bytes, FileName, LoadError, Name, Store};
+use table_commands::{Stop, What, bytes_of, column_what, refused};
 
 /// How many bytes are read of a now file and of a column file at most.
 const MAX_NOW_FILE: u64 = 13;

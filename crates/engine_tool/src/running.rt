@@ -3,12 +3,12 @@
 ghost use Rattle.std.specs.Prelude.{◌≡◌, map, string_bytes};
 ghost use Rattle.engine_tool.specs.Commands.{command_in};
 ghost use Rattle.engine_tool.specs.Promises.{Inside, Promises};
-ghost use Rattle.engine_tool.specs.Stops.{outside, IsWritten};
+ghost use Rattle.engine_tool.specs.Ends.{outside, IsWritten};
 
 use crate::replies::reply;
-use crate::stops::Stop;
 use std::alloc::Global;
 use stream_core::{Bytes, Failed, Sink, Source, Store, write_all};
+use table_commands::Stop;
 
 /// The status of a failed call.
 const FAULT: u8 = 3;
@@ -32,9 +32,9 @@ fn respond<O: Sink>(out: &mut O, end: Result<Bytes, Stop>) -> u8
 }
 
 /// Does what the words say, over the files of `store`, with the text of `input`, and writes the answer or one line that
-/// says why there is none to `out`. The result is the exit status: 0 where the whole answer was taken, 1 where the text is
-/// no query, 2 where the words are no command, 3 after a call that failed, 4 where a file of the database is absent or out of
-/// form, 5 where a sum is too wide, and 6 where memory was refused.
+/// says why there is none to `out`. The result is the exit status: 0 if the whole answer was taken, 1 if the text is
+/// no query, 2 if the words are no command, 3 after a call that failed, 4 if the database or the table that is named does not
+/// open, 5 if a sum is too wide, 6 if memory was refused, and 7 if the text of an import is refused.
 pub fn run<S: Store, I: Source, O: Sink>(
     alloc: Global,
     words: &[String],

@@ -4,18 +4,18 @@ ghost use Rattle.std.specs.Prelude.{◌≡◌, ◌^◌, ◌<◌, ℕ, List as It
 ghost use Rattle.definitions_operators.specs.Sums.{kept_values};
 ghost use Rattle.engine_tool.specs.Answers.{answer_text};
 ghost use Rattle.engine_tool.specs.Replies.{kept_in, answer_over};
-ghost use Rattle.engine_tool.specs.Stops.{Computes, IsInner, TakesNoMemory};
+ghost use Rattle.table_commands.specs.Stops.{Computes, IsInner, TakesNoMemory};
 ghost use Rattle.engine_tool.specs.Texts.{condition_view};
 ghost use Rattle.engine_tool.specs.Views.{loaded_view, HasRows};
 
 use crate::decoding::decoded;
 use crate::loading::{Loaded, Tested};
-use crate::stops::{Refusal, Stop};
 use crate::text::Condition;
 use itoa::Buffer;
 use scan_ops::{project, select};
 use std::alloc::{AllocError, Global};
 use stream_core::{Bytes, List};
+use table_commands::{Refusal, Stop};
 
 /// The values of the first column in the rows whose other column is from `low` to `high`.
 fn kept_where(

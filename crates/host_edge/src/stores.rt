@@ -1,6 +1,6 @@
 //! The files of the current folder as a store.
 
-ghost use Rattle.std.specs.Prelude.{◌≡◌, ◌≢◌, ◌+◌, ◌^◌, ◌<◌, ◌≤◌, Ok, Err, Some, None, length, take, IfOk, IfErr, IfSome, OnOk, OnErr, if◌then◌else◌};
+ghost use Rattle.std.specs.Prelude.{◌≡◌, ◌≢◌, ◌+◌, ◌^◌, ◌<◌, ◌≤◌, Ok, Err, Some, None, length, take, IfOk, IfErr, IfSome, OnOk, if◌then◌else◌};
 ghost use Rattle.std.specs.IoError.{error_kind};
 ghost use Rattle.stream_core.specs.Faults.{next_count};
 
@@ -74,14 +74,32 @@ fn load_answer(found: io::Result<Vec<u8>>, limit: u64) -> Result<Option<Bytes>, 
     }
 }
 
+/// Writes the bytes as a file of their own, which then takes the name. So who opens the name finds a whole file, the old one or the new
+/// one, also if the program is ended in between. After an error the file of its own is removed.
+fn replace_file<R: Files>(alloc: Global, rt: &R, name: &str, bytes: &[u8]) -> io::Result<()> {
+    let beside = format!(in alloc; "{name}.new")?;
+    let done = match fs::write(rt, beside.as_str(), bytes) {
+        Ok(()) => fs::rename(rt, beside.as_str(), name),
+        Err(error) => Err(error),
+    };
+    if done.is_err() {
+        let _ = fs::remove_file(rt, beside.as_str());
+    }
+    done
+}
+
 /// What a save answers when the folder ended it so.
 fn save_answer(done: io::Result<()>) -> Result<(), SaveError>
     ensures saved { OnOk done (result ≡ Ok tt) }
-    ensures failed { OnErr done (result ≡ Err SaveError.Failed) }
+    ensures memory { IfErr done (λ error. error_kind error ≡ ErrorKind.OutOfMemory → result ≡ Err SaveError.Memory) }
+    ensures failed { IfErr done (λ error. error_kind error ≢ ErrorKind.OutOfMemory → result ≡ Err SaveError.Failed) }
 {
     match done {
         Ok(()) => Ok(()),
-        Err(_) => Err(SaveError::Failed),
+        Err(error) => match error.kind() {
+            ErrorKind::OutOfMemory => Err(SaveError::Memory),
+            _ => Err(SaveError::Failed),
+        },
     }
 }
 
@@ -108,9 +126,10 @@ impl<'a, R: Files> Store for FolderStore<'a, R> {
         answer
     }
 
-    fn save(&mut self, _alloc: Global, name: &str, bytes: &[u8]) -> Result<(), SaveError> {
-        let answer = save_answer(fs::write(self.rt, name, bytes));
-        self.faults = faults_after(self.faults, answer.is_err());
+    fn save(&mut self, alloc: Global, name: &str, bytes: &[u8]) -> Result<(), SaveError> {
+        let answer = save_answer(replace_file(alloc, self.rt, name, bytes));
+        let has_failed = matches!(&answer, Err(SaveError::Failed));
+        self.faults = faults_after(self.faults, has_failed);
         answer
     }
 }

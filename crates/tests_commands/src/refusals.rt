@@ -88,7 +88,7 @@ fn no_command(rt: &impl Abort, alloc: Global, words: &[&str]) -> Result<(), Allo
 fn other_words_are_no_command_and_leave_the_input_unread(rt: HostRuntime) -> Result<(), Fail> {
     for words in [
         [].as_slice(),
-        &["help"],
+        &["helps"],
         &["Query"],
         &[""],
         &["query", "t"],

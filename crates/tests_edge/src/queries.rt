@@ -59,7 +59,7 @@ const QUERIES: [(&str, &str); 21] = [
 const WORDS: [(&str, &[&str]); 5] = [
     ("no word", &[]),
     ("an empty word", &[""]),
-    ("another word", &["help"]),
+    ("another word", &["helps"]),
     ("a word too many", &["query", "query"]),
     ("a word behind check", &["check", "t"]),
 ];

@@ -3,7 +3,7 @@ use Rattle.std.proofs.lemmas.Result.{err_from_is_err_and}
 use Rattle.definitions_outcomes.specs.Outcomes.{Gives}
 use Rattle.engine_tool.specs.Replies.{column_bytes, for_rows, ValuesOf, RowsOf}
 use Rattle.engine_tool.specs.Views.{values_of}
-use Rattle.engine_tool.proofs.StepLemmas.{Ends-stopped, Ends-went, Ends-computed}
+use Rattle.table_commands.proofs.StepLemmas.{Ends-stopped, Ends-went, Ends-computed}
 use Rattle.engine_tool.proofs.loading.column_of.Goals as goal
 
 pub returns-in_err-column-clause-step : goal.returns-in_err-column-clause-step

@@ -1,6 +1,6 @@
 use Rattle.column_file.specs.Faults.{fault_of, IsFirstFile}
-use Rattle.engine_tool.specs.Stops.{what_text}
-use Rattle.engine_tool.proofs.CheckLemmas.{fault_named}
+use Rattle.table_commands.specs.Stops.{what_text}
+use Rattle.engine_tool.proofs.FaultLemmas.{fault_named}
 use Rattle.engine_tool.proofs.loading.column_stop.Goals as goal
 
 pub returns-in-Some-clause-step : goal.returns-in-Some-clause-step

@@ -4,12 +4,12 @@ use Rattle.stream_core.specs.Files.{Files}
 use Rattle.database_core.specs.NowFiles.{Now}
 use Rattle.definitions_outcomes.specs.Outcomes.{Outcomes, Gives, Then}
 use Rattle.engine_tool.specs.Queries.{Query}
-use Rattle.engine_tool.specs.Refusals.{Refusal}
+use Rattle.table_commands.specs.Refusals.{Refusal}
 use Rattle.engine_tool.specs.Replies.{Loaded, now_of, ColumnOf, TestedOf}
 use Rattle.engine_tool.specs.Texts.{query_view}
 use Rattle.database_core.specs.NowViews.{now_view}
 use Rattle.engine_tool.specs.Views.{values_of, loaded_view}
-use Rattle.engine_tool.proofs.StepLemmas.{Ends-stopped, Ends-went}
+use Rattle.table_commands.proofs.StepLemmas.{Ends-stopped, Ends-went}
 use Rattle.engine_tool.proofs.loading.loaded_of.Goals as goal
 
 -- the steps after the now file

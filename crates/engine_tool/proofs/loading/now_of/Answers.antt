@@ -6,7 +6,7 @@ use Rattle.stream_core.specs.Stores.{Exceeds, IsLoaded}
 use Rattle.stream_core.specs.declared.storing.LoadError.TheVariants as load
 use Rattle.database_core.specs.NowFiles.{now_in}
 use Rattle.definitions_outcomes.specs.Computed.{bind}
-use Rattle.engine_tool.specs.Refusals.{bad_file}
+use Rattle.table_commands.specs.Refusals.{bad_file}
 use Rattle.engine_tool.specs.Replies.{now_of}
 use Rattle.database_core.proofs.NowLemmas.{other_length}
 use Rattle.engine_tool.proofs.loading.now_of.Goals as goal

@@ -1,27 +1,11 @@
 use Rattle.std.proofs.Common.{refl}
-use Rattle.engine_tool.specs.declared.commands.Command.TheVariants as command
-use Rattle.engine_tool.specs.Checking.{CheckReply}
-use Rattle.engine_tool.specs.Promises.{Inside}
-use Rattle.engine_tool.specs.Stops.{inside}
-use Rattle.engine_tool.proofs.DidLemmas.{did_read}
+use Rattle.command_words.specs.Commands.{check}
+use Rattle.table_commands.specs.Checking.{CheckReply}
+use Rattle.engine_tool.proofs.DidLemmas.{did_alone}
 use Rattle.engine_tool.proofs.replies.check.Goals as goal
 
 pub returns : goal.returns
 returns g c = λ input input_faults.
-    let before : Inside = inside (g.S.Store.files c.args.store.now) (g.S.Store.faults c.args.store.now) input input_faults in
-    let after : Inside = inside (g.S.Store.files c.checked.new.store) (g.S.Store.faults c.checked.new.store) input input_faults in
-    let kept = c.checked.ensures.kept in
-    did_read command.Check before after (λ files text. CheckReply files) (λ files text e answered. (e, answered, refl)) c.checked.result
-    (λ files text told. c.checked.ensures.step files (told.folder refl))
-    (record {
-      files = kept.files;
-      whole = λ reads. absurd (cc);
-      unread = λ e. refl;
-      unasked = λ text told refused. absurd refused;
-      unheard = λ files told refused. (refl, refl);
-      store_cause = λ e. (refl, kept.cause e);
-      store_calm = kept.calm;
-      input_cause = λ e. absurd (kept.input e);
-      input_calm = λ other. refl;
-      usage = kept.usage;
-    })
+    let store = g.S.Store in
+    did_alone check refl refl (λ text refused. refused) input input_faults (store.files c.args.store.now) (store.files c.check_answer.new.store) (store.faults c.args.store.now) (store.faults c.check_answer.new.store)
+    refl (λ files. CheckReply files) (λ files text e answered. (e, answered, refl)) c.check_answer.result c.check_answer.ensures.step c.check_answer.ensures.kept

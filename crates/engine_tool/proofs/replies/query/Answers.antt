@@ -1,12 +1,13 @@
 use Rattle.std.proofs.Common.{List, ℕ, Err, refl}
 use Rattle.std.proofs.lemmas.Result.{err_from_is_err_and}
-use Rattle.engine_tool.specs.declared.commands.Command.TheVariants as command
+use Rattle.command_words.specs.Commands.{query}
+use Rattle.command_words.specs.Views.{query_view as options_view}
 use Rattle.engine_tool.specs.Promises.{Inside}
 use Rattle.engine_tool.specs.Replies.{QueryOf, AnswerOf, QueryReply}
-use Rattle.engine_tool.specs.Stops.{inside}
+use Rattle.engine_tool.specs.Ends.{inside}
 use Rattle.engine_tool.specs.Texts.{query_view}
 use Rattle.engine_tool.proofs.DidLemmas.{OnOk-always, IsErrOf-other, did_read}
-use Rattle.engine_tool.proofs.StepLemmas.{Ends-stopped, Ends-went}
+use Rattle.table_commands.proofs.StepLemmas.{Ends-stopped, Ends-went}
 use Rattle.engine_tool.proofs.replies.query.Goals as goal
 
 -- the text was not read, or is no query: no file was loaded
@@ -18,10 +19,9 @@ returns-in_err-query g c =
     let given = c.in_err-query.field-0.0 in
     let kept = c.in_err-query.ensures.kept in
     rw (p.1, p.2)
-    (did_read command.Query before after QueryReply (λ files text e answered. (e, answered, refl)) (Err given)
-    (λ files text told. Ends-stopped (λ (b : List ℕ). b) (QueryOf text) (AnswerOf files) query_view given (c.in_err-query.ensures.step text (told.given refl)))
+    (did_read (query (options_view c.args.options.now)) before after QueryReply (λ files text e answered. (e, answered, refl)) (Err given)
+    (λ files text told. Ends-stopped (λ (b : List ℕ). b) (QueryOf text) (AnswerOf files) query_view given (c.in_err-query.ensures.step text (told.given refl))) refl refl
     (record {
-      files = refl;
       whole = λ reads. tt;
       unread = λ e. cc;
       unasked = λ text told refused. refl;
@@ -40,10 +40,9 @@ returns g c =
     let asked = query_view c.in_ok-query.query in
     let read = c.in_ok-query.ensures in
     let kept = c.answer.ensures.kept in
-    did_read command.Query before after QueryReply (λ files text e answered. (e, answered, refl)) c.answer.result
-    (λ files text told. Ends-went (λ (b : List ℕ). b) (QueryOf text) (AnswerOf files) asked c.answer.result (read.step text (told.given refl)) (c.answer.ensures.step files (told.folder refl)))
+    did_read (query (options_view c.args.options.now)) before after QueryReply (λ files text e answered. (e, answered, refl)) c.answer.result
+    (λ files text told. Ends-went (λ (b : List ℕ). b) (QueryOf text) (AnswerOf files) asked c.answer.result (read.step text (told.given refl)) (c.answer.ensures.step files (told.folder refl))) kept.files refl
     (record {
-      files = kept.files;
       whole = λ reads. OnOk-always c.answer.result read.kept.whole;
       unread = λ e. cc;
       unasked = λ text told refused. absurd (refused asked (read.step text told));

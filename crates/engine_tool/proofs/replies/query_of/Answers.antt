@@ -1,9 +1,9 @@
 use Rattle.std.proofs.Common.{sym}
 use Rattle.definitions_outcomes.specs.Outcomes.{Gives, OneOr}
 use Rattle.engine_tool.specs.Queries.{Spells, max_query}
-use Rattle.engine_tool.specs.Refusals.{bad_query, limited}
+use Rattle.table_commands.specs.Refusals.{bad_query, limited}
 use Rattle.engine_tool.specs.Texts.{query_view}
-use Rattle.engine_tool.proofs.StepLemmas.{Ends-went}
+use Rattle.table_commands.proofs.StepLemmas.{Ends-went}
 use Rattle.engine_tool.proofs.replies.query_of.Goals as goal
 
 pub returns-clause-step : goal.returns-clause-step

@@ -2,7 +2,7 @@ use Rattle.std.proofs.Common.{map}
 use Rattle.std.specs.Prelude.{string_bytes}
 use Rattle.engine_tool.specs.Commands.{command_in}
 use Rattle.engine_tool.specs.Promises.{Outside}
-use Rattle.engine_tool.specs.Stops.{outside}
+use Rattle.engine_tool.specs.Ends.{outside}
 use Rattle.engine_tool.proofs.RunLemmas.{promises}
 use Rattle.engine_tool.proofs.running.run.Goals as goal
 

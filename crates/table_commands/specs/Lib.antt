@@ -1,0 +1,12 @@
+pub mod Refusals
+pub mod Databases
+pub mod Checking
+pub mod Exporting
+pub mod Saving
+pub mod Importing
+pub mod Reformatting
+pub mod Stops
+pub mod ErrorStops
+pub mod SavingStops
+pub mod ImportStops
+pub mod Views
