@@ -48,6 +48,7 @@ bench: $(MORPHQ) $(COLUMN_TOOL)
 	bench/dictionaries $(PROCESSOR)
 	bench/read_column
 	bench/first_query
+	bench/imports
 
 install:
 	@[ -x $(MORPHQ) ] || { echo "morphq is not built yet: run 'make demo' first" >&2; exit 1; }
