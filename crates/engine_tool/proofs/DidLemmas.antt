@@ -1,5 +1,5 @@
 -- What a command that saves nothing did, from the clauses of its steps.
-use Rattle.std.proofs.Common.{◌≡◌, ℕ, true, false, inl, inr, List, Option, Some, None, Result, Ok, Err, refl, sym, ap, subst, ◌∙◌}
+use Rattle.std.proofs.Common.{◌≡◌, ℕ, ◌⊎◌, true, false, inl, inr, List, Option, Some, None, Result, Ok, Err, refl, sym, ap, subst, ◌∙◌}
 use Rattle.std.specs.Prelude.{OnOk, IsErrOf, IsTrue}
 use Rattle.std.specs.Io.KnownBytes.{IsAtEnd}
 use Rattle.stream_core.specs.Faults.{Rose}
@@ -11,8 +11,8 @@ use Rattle.table_commands.specs.Refusals.{Refusal}
 use Rattle.definitions_outcomes.specs.Outcomes.{Outcomes, Gives}
 use Rattle.database_core.specs.TableFiles.{SameRows}
 use Rattle.table_commands.specs.Saving.{unchanged}
-use Rattle.engine_tool.specs.Replies.{Means, RefusesText, RefusesFiles}
-use Rattle.engine_tool.specs.Promises.{Inside, Told, FilesAre, ChangesOnly, StoreRose, InputRose}
+use Rattle.engine_tool.specs.Replies.{Means, RefusesText, RefusesFiles, RefusesBoth}
+use Rattle.engine_tool.specs.Promises.{Inside, Told, FilesAre, ChangesOnly, StoreRose, InputRose, StoreKept, InputKept}
 use Rattle.table_commands.specs.Stops.{refusal_of, Ends, EndsAs, KeepsStore}
 use Rattle.engine_tool.specs.Ends.{Answers, Stopped, Did, DidAny, inside}
 use Rattle.table_commands.specs.declared.stops.Stop.{Stop}
@@ -46,8 +46,9 @@ some_or other (Some value) = value
 pub record Beside (command : Command) (before after : Inside) (end : Result (List ℕ) Stop) : Type 0 where
   pub whole : IsTrue (reads_input (Some command)) → OnOk end (IsAtEnd after.input)
   pub unread : reads_input (Some command) ≡ false → after.input ≡ before.input
-  pub unasked : (text : List ℕ) → before.input ≡ Some text → RefusesText (Some command) text → after.store_faults ≡ before.store_faults
-  pub unheard : (files : Files) → before.files ≡ Some files → RefusesFiles (Some command) files → (after.input ≡ before.input) × (after.input_faults ≡ before.input_faults)
+  pub unasked : (text : List ℕ) → before.input ≡ Some text → RefusesText (Some command) text → StoreKept before after
+  pub unheard : (files : Files) → before.files ≡ Some files → RefusesFiles (Some command) files → InputKept before after
+  pub judged : (files : Files) (text : List ℕ) → Told (Some command) before files text → RefusesBoth (Some command) files text → StoreKept before after ⊎ InputKept before after
   pub store_cause : IsErrOf end stop.StoreFault → IsTrue (reads_files (Some command)) × StoreRose before after
   pub store_calm : (IsErrOf end stop.StoreFault → ⊥) → after.store_faults ≡ before.store_faults
   pub input_cause : IsErrOf end stop.InputFault → IsTrue (reads_input (Some command)) × InputRose before after
@@ -79,6 +80,7 @@ module _ (command : Command) (before after : Inside) where
     unread = beside.unread;
     unasked = beside.unasked;
     unheard = beside.unheard;
+    judged = beside.judged;
     changes = subst (λ files. ChangesOnly (saves (Some command)) before.files files) (sym kept) (ChangesOnly-kept (saves (Some command)) before.files);
     kept = λ table files held is told_before told_after. stopped table files held is (ap (some_or held) (sym told_after ∙ kept ∙ told_before));
     store_cause = beside.store_cause;
@@ -118,6 +120,7 @@ did_nothing command at = did_kept command at at (Err stop.Memory) (λ files text
   unread = λ e. refl;
   unasked = λ text told refused. refl;
   unheard = λ files told refused. (refl, refl);
+  judged = λ files text told refused. inl refl;
   store_cause = λ e. absurd (cc);
   store_calm = λ other. refl;
   input_cause = λ e. absurd (cc);
@@ -141,6 +144,7 @@ module _ (command : Command) (reads : IsTrue (reads_files (Some command))) (igno
     unread = λ e. refl;
     unasked = λ text told refused. absurd (never text refused);
     unheard = λ files told refused. (refl, refl);
+    judged = λ files text told refused. inr (refl, refl);
     store_cause = λ e. (reads, cause e);
     store_calm = calm;
     input_cause = λ e. absurd (not_input e);
@@ -164,6 +168,7 @@ did_help at text is = did_read help at at (λ files given. Gives (Ok help_text))
       unread = λ e. refl;
       unasked = λ given told refused. absurd refused;
       unheard = λ files told refused. absurd refused;
+      judged = λ files given told refused. absurd refused;
       store_cause = λ e. absurd (cc);
       store_calm = λ other. refl;
       input_cause = λ e. absurd (cc);

@@ -10,8 +10,8 @@ use Rattle.engine_tool.specs.Commands.{reads_files, reads_input, saves}
 use Rattle.table_commands.specs.Refusals.{usage_line}
 use Rattle.table_commands.specs.Databases.{definition_of}
 use Rattle.table_commands.specs.Saving.{Answer}
-use Rattle.engine_tool.specs.Replies.{Reply, Replies, RefusesText, RefusesFiles, reply_of}
-use Rattle.engine_tool.specs.Promises.{Inside, Told, FilesAre, ChangesOnly, StoreRose, InputRose, HaveSaved}
+use Rattle.engine_tool.specs.Replies.{Reply, Replies, RefusesText, RefusesFiles, RefusesBoth, reply_of}
+use Rattle.engine_tool.specs.Promises.{Inside, Told, FilesAre, ChangesOnly, StoreRose, InputRose, StoreKept, InputKept, HaveSaved}
 use Rattle.table_commands.specs.Stops.{refusal_of}
 use Rattle.engine_tool.specs.Ends.{status_of, text_of, Answers, Switched, Stopped, Did, DidAny}
 use Rattle.table_commands.specs.declared.stops.Stop.{Stop}
@@ -34,8 +34,9 @@ pub record Ended (command : Option Command) (before after : Inside) (end : Resul
   pub quiet : command ≡ None → after ≡ before
   pub whole : IsTrue (reads_input command) → OnOk end (IsAtEnd after.input)
   pub unread : reads_input command ≡ false → after.input ≡ before.input
-  pub unasked : (text : List ℕ) → before.input ≡ Some text → RefusesText command text → after.store_faults ≡ before.store_faults
-  pub unheard : (files : Files) → before.files ≡ Some files → RefusesFiles command files → (after.input ≡ before.input) × (after.input_faults ≡ before.input_faults)
+  pub unasked : (text : List ℕ) → before.input ≡ Some text → RefusesText command text → StoreKept before after
+  pub unheard : (files : Files) → before.files ≡ Some files → RefusesFiles command files → InputKept before after
+  pub judged : (files : Files) (text : List ℕ) → Told command before files text → RefusesBoth command files text → StoreKept before after ⊎ InputKept before after
   pub changes : ChangesOnly (saves command) before.files after.files
   pub keeps : (table : List ℕ) (files held : Files) → saves command ≡ Some table → before.files ≡ Some files → after.files ≡ Some held → status_of end ≢ 0
       → SameRows held files ⊎ (StoreRose before after × (full : Files) × (saved : HaveSaved command table before files full) × SameBut (now_file_name (definition_of saved.found).name) held full)
@@ -95,6 +96,7 @@ module _ (before after : Inside) (end : Result (List ℕ) Stop) (is : (end ≡ E
     unread = λ e. ap (λ i. i.input) same;
     unasked = λ text told refused. absurd refused;
     unheard = λ files told refused. absurd refused;
+    judged = λ files text told refused. absurd refused;
     changes = subst (λ files. ChangesOnly None before.files files) (sym kept_files) (ChangesOnly-kept None before.files);
     keeps = λ table files held names. absurd (none_not_some table names);
     leaves = λ table files held names. absurd (none_not_some table names);
@@ -142,6 +144,7 @@ module _ (command : Command) (before after : Inside) where
     unread = did.unread;
     unasked = did.unasked;
     unheard = did.unheard;
+    judged = did.judged;
     changes = did.changes;
     keeps = λ table files held names told_before told_after. keeps_of_end table files held end (did.kept table files held names told_before told_after);
     leaves = λ table files held names told_before told_after e. leaves_of_end table files held end (did.kept table files held names told_before told_after) e;

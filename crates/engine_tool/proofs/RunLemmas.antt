@@ -67,9 +67,10 @@ module _ (command : Option Command) (before after : Outside) (end : Result (List
       unread = it.unread;
       unasked = it.unasked;
       unheard = it.unheard;
+      judged = it.judged;
       changes = it.changes;
       kept = kept_said;
-      fault = λ e. fault_said e (λ text is. inl (subst (Took before after) is took));
+      fault = λ e. fault_said e (λ text is. inl (subst (Took before after) is took, sound));
       calm = none_failed;
       memory = λ e. subst (Took before after) (ap text_of (at_six end e)) took;
       complete = λ none files text told. elim (sort_of end) [
@@ -114,6 +115,7 @@ module _ (command : Option Command) (before after : Outside) (end : Result (List
       unread = it.unread;
       unasked = it.unasked;
       unheard = it.unheard;
+      judged = it.judged;
       changes = it.changes;
       kept = λ table files held names told_before told_after not_done. kept_cut table files held names told_before told_after;
       fault = λ e. cut_fault;

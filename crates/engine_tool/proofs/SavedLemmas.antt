@@ -109,6 +109,7 @@ module _ (command : Command) (name : List ℕ) (before after : Inside) (ready : 
     unread = beside.unread;
     unasked = beside.unasked;
     unheard = beside.unheard;
+    judged = beside.judged;
     changes = subst (λ named. ChangesOnly named before.files after.files) (sym names) (table_changes ofs before.files after.files refl changes);
     kept = λ table files held is told_before told_after.
         subst (λ one. Stopped command one before after files held end) (same_name table is) (stopped ofs end cause saved files held told_before told_after);

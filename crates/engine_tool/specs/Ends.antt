@@ -10,8 +10,8 @@ use Rattle.table_commands.specs.Stops.{refusal_of, stop_status, stop_line}
 use Rattle.table_commands.specs.declared.stops.Stop.{Stop}
 use Rattle.table_commands.specs.declared.stops.Stop.TheVariants as stop
 use Rattle.engine_tool.specs.Commands.{reads_files, reads_input, saves}
-use Rattle.engine_tool.specs.Promises.{Inside, Outside, Told, FilesAre, ChangesOnly, StoreRose, InputRose, Took, IsCutOff, HaveSaved}
-use Rattle.engine_tool.specs.Replies.{Means, RefusesText, RefusesFiles}
+use Rattle.engine_tool.specs.Promises.{Inside, Outside, Told, FilesAre, ChangesOnly, StoreRose, InputRose, StoreKept, InputKept, Took, IsCutOff, HaveSaved}
+use Rattle.engine_tool.specs.Replies.{Means, RefusesText, RefusesFiles, RefusesBoth}
 
 -- the status of an end, and the text that is to be written
 abbrev pub status_of : Result (List ℕ) Stop → ℕ
@@ -52,8 +52,9 @@ pub record Did (command : Command) (before after : Inside) (end : Result (List �
   pub answers : (files : Files) (text : List ℕ) → Told (Some command) before files text → Answers command before after files text end
   pub whole : IsTrue (reads_input (Some command)) → OnOk end (IsAtEnd after.input)
   pub unread : reads_input (Some command) ≡ false → after.input ≡ before.input
-  pub unasked : (text : List ℕ) → before.input ≡ Some text → RefusesText (Some command) text → after.store_faults ≡ before.store_faults
-  pub unheard : (files : Files) → before.files ≡ Some files → RefusesFiles (Some command) files → (after.input ≡ before.input) × (after.input_faults ≡ before.input_faults)
+  pub unasked : (text : List ℕ) → before.input ≡ Some text → RefusesText (Some command) text → StoreKept before after
+  pub unheard : (files : Files) → before.files ≡ Some files → RefusesFiles (Some command) files → InputKept before after
+  pub judged : (files : Files) (text : List ℕ) → Told (Some command) before files text → RefusesBoth (Some command) files text → StoreKept before after ⊎ InputKept before after
   pub changes : ChangesOnly (saves (Some command)) before.files after.files
   pub kept : (table : List ℕ) (files held : Files) → saves (Some command) ≡ Some table → before.files ≡ Some files → after.files ≡ Some held →
       Stopped command table before after files held end

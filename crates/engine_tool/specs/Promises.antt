@@ -13,7 +13,7 @@ use Rattle.table_commands.specs.Databases.{TableStep, definition_of}
 use Rattle.table_commands.specs.Refusals.{usage_line}
 use Rattle.table_commands.specs.Saving.{Answer}
 use Rattle.engine_tool.specs.Commands.{reads_files, reads_input, saves}
-use Rattle.engine_tool.specs.Replies.{Reply, Replies, Means, RefusesText, RefusesFiles}
+use Rattle.engine_tool.specs.Replies.{Reply, Replies, Means, RefusesText, RefusesFiles, RefusesBoth}
 
 -- What contracts see of a store and an input: the files and the bytes that are left, if they are told, and how many calls of
 -- each have failed.
@@ -62,6 +62,13 @@ OutputRose before after = Rose before.output_faults after.output_faults
 abbrev pub SomeRose : Outside → Outside → Type 0
 SomeRose before after = StoreRose before.inside after.inside ⊎ InputRose before.inside after.inside ⊎ OutputRose before after
 
+-- no call of the store failed; the input is as it was
+abbrev pub StoreKept : Inside → Inside → Type 0
+StoreKept before after = after.store_faults ≡ before.store_faults
+
+abbrev pub InputKept : Inside → Inside → Type 0
+InputKept before after = (after.input ≡ before.input) × (after.input_faults ≡ before.input_faults)
+
 -- no call failed
 pub record NoneFailed (before after : Outside) : Type 0 where
   pub store : after.inside.store_faults ≡ before.inside.store_faults
@@ -84,9 +91,9 @@ pub record IsCutOff (before after : Outside) (text : List ℕ) : Type 0 where
   pub short : count < length text
   pub taken : Took before after (take count text)
 
--- the output took the text, or a proper prefix of it
+-- the output took the text, and no write failed; or it took a proper prefix of the text, since one failed
 abbrev pub Says : Outside → Outside → List ℕ → Type 0
-Says before after line = Took before after line ⊎ IsCutOff before after line
+Says before after line = (Took before after line × (after.output_faults ≡ before.output_faults)) ⊎ IsCutOff before after line
 
 -- What stands behind status 3. A call of the store failed and none of the input, or the other way round, and the line that
 -- says so was written or cut off. Or only a write failed, and the reply or the line `memory` was cut off.
@@ -139,9 +146,10 @@ pub record Promises (command : Option Command) (before after : Outside) (status 
   pub unread : reads_input command ≡ false → after.inside.input ≡ before.inside.input
   -- No load fails for a text that is refused whatever the files hold, so none is made. The input is left for files that are
   -- refused whatever it holds.
-  pub unasked : (text : List ℕ) → before.inside.input ≡ Some text → RefusesText command text → after.inside.store_faults ≡ before.inside.store_faults
-  pub unheard : (files : Files) → before.inside.files ≡ Some files → RefusesFiles command files →
-      (after.inside.input ≡ before.inside.input) × (after.inside.input_faults ≡ before.inside.input_faults)
+  pub unasked : (text : List ℕ) → before.inside.input ≡ Some text → RefusesText command text → StoreKept before.inside after.inside
+  pub unheard : (files : Files) → before.inside.files ≡ Some files → RefusesFiles command files → InputKept before.inside after.inside
+  -- A text that is refused for what the files hold is judged as soon as it is read: if a load failed, the text was not read.
+  pub judged : (files : Files) (text : List ℕ) → Told command before.inside files text → RefusesBoth command files text → StoreKept before.inside after.inside ⊎ InputKept before.inside after.inside
   -- Only files of the saved table change, and its rows change only if the status is 0, with two exceptions.
   pub changes : ChangesOnly (saves command) before.inside.files after.inside.files
   pub kept : (table : List ℕ) (files held : Files) → saves command ≡ Some table → before.inside.files ≡ Some files → after.inside.files ≡ Some held →

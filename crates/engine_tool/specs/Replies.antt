@@ -18,9 +18,9 @@ use Rattle.table_commands.specs.Checking.{CheckReply}
 use Rattle.table_commands.specs.Databases.{TableStep}
 use Rattle.table_commands.specs.declared.databases.Found.{Found}
 use Rattle.table_commands.specs.Exporting.{ExportReply}
-use Rattle.table_commands.specs.Importing.{ImportReply}
+use Rattle.table_commands.specs.Importing.{ReadyImport, ImportReply}
 use Rattle.table_commands.specs.Reformatting.{ReformatReply}
-use Rattle.table_commands.specs.Saving.{Answer, unchanged}
+use Rattle.table_commands.specs.Saving.{Ready, Answer, unchanged}
 use Rattle.engine_tool.specs.Queries.{Condition, Query, Spells, max_query}
 use Rattle.table_commands.specs.Refusals.{Refusal, status_of_kind, bad_query, bad_file, sum_too_wide, usage_line, limited, file_of, bytes_of, fault_text}
 
@@ -143,6 +143,18 @@ RefusesFiles (Some command.explain) files = ⊥
 RefusesFiles (Some command.help) files = ⊥
 RefusesFiles (Some (command.query options)) files = ⊥
 RefusesFiles (Some (command.demo options)) files = ⊥
+
+-- the command refuses the text for these files once both are read, and loads nothing behind the text
+abbrev pub RefusesBoth : Option Command → Files → List ℕ → Type 0
+RefusesBoth None files text = ⊥
+RefusesBoth (Some (command.import table)) files text = (ready : Ready) → ReadyImport files table text (Ok ready) → ⊥
+RefusesBoth (Some (command.export table)) files text = ⊥
+RefusesBoth (Some (command.reformat table)) files text = ⊥
+RefusesBoth (Some command.check) files text = ⊥
+RefusesBoth (Some command.explain) files text = ⊥
+RefusesBoth (Some command.help) files text = ⊥
+RefusesBoth (Some (command.query options)) files text = ⊥
+RefusesBoth (Some (command.demo options)) files text = ⊥
 
 -- a command has one reply at most
 abbrev pub OneReply : Type 0

@@ -1,7 +1,7 @@
 //! What `import` saves: the schema is read and the table found, then the text is read, and its rows are taken into columns, each stored
 //! as the schema says.
 
-ghost use Rattle.std.specs.Prelude.{◌≡◌, ℕ, List as Items, Some, Ok, IfOk};
+ghost use Rattle.std.specs.Prelude.{◌≡◌, ◌⊎◌, ℕ, List as Items, Some, Ok, IfOk};
 ghost use Rattle.definitions_outcomes.specs.Outcomes.{Gives, Then};
 ghost use Rattle.stream_core.specs.Files.{Files};
 ghost use Rattle.table_commands.specs.declared.databases.Found as databases;
@@ -81,6 +81,8 @@ pub fn ready_import<S: Store, I: Source>(
     ensures kept { KeepsBoth (S.files store.old) (S.files store.new) (S.faults store.old) (S.faults store.new) (I.left input.new) (I.faults input.old) (I.faults input.new) result }
     ensures unheard { (files : Files) → S.files store.old ≡ Some files → ((found : databases.Found) → TableStep files table.now (Ok found) → ⊥)
         → (I.left input.new ≡ I.left input.old) × (I.faults input.new ≡ I.faults input.old) }
+    // Nothing is loaded behind the text: if a load failed, the input is as it was.
+    ensures early { (S.faults store.new ≡ S.faults store.old) ⊎ ((I.left input.new ≡ I.left input.old) × (I.faults input.new ≡ I.faults input.old)) }
 {
     let found = found_table(alloc, store, table)?;
     let text = text_of(alloc, input)?;
