@@ -28,6 +28,26 @@ fn strings_of(alloc: Global, words: &[&str]) -> Result<Vec<String>, AllocError> 
     Ok(strings)
 }
 
+/// An input of this text, handed out in pieces of seven bytes. The reads of these numbers fail.
+pub fn source(alloc: Global, text: &[u8], failing: &[u64]) -> Result<MemSource, AllocError> {
+    let bytes = List::from_vec(Vec::from_slice(alloc, text)?);
+    Ok(MemSource::new(bytes, 7, numbers(alloc, failing)?))
+}
+
+/// The status and the output of a command over this input, into an output with room for so many bytes.
+pub fn answer_over(
+    alloc: Global,
+    store: &mut MemStore,
+    words: &[&str],
+    input: &mut MemSource,
+    room: usize,
+) -> Result<(u8, Vec<u8>), AllocError> {
+    let words = strings_of(alloc, words)?;
+    let mut out = MemSink::new(alloc, room, numbers(alloc, &[])?)?;
+    let status = run(alloc, words.as_slice(), store, input, &mut out);
+    Ok((status, Vec::from_slice(alloc, out.taken())?))
+}
+
 /// The status and the output of a command, into an output with room for so many bytes.
 pub fn answer(
     alloc: Global,
@@ -36,12 +56,8 @@ pub fn answer(
     text: &[u8],
     room: usize,
 ) -> Result<(u8, Vec<u8>), AllocError> {
-    let words = strings_of(alloc, words)?;
-    let bytes = List::from_vec(Vec::from_slice(alloc, text)?);
-    let mut input = MemSource::new(bytes, 7, numbers(alloc, &[])?);
-    let mut out = MemSink::new(alloc, room, numbers(alloc, &[])?)?;
-    let status = run(alloc, words.as_slice(), store, &mut input, &mut out);
-    Ok((status, Vec::from_slice(alloc, out.taken())?))
+    let mut input = source(alloc, text, &[])?;
+    answer_over(alloc, store, words, &mut input, room)
 }
 
 /// The command ends with its status, and writes its text.

@@ -11,6 +11,18 @@ mod folders;
 #[cfg(test)]
 mod imports;
 #[cfg(test)]
+mod inputs;
+#[cfg(test)]
+mod loads;
+#[cfg(test)]
+mod notes;
+#[cfg(test)]
+mod outputs;
+#[cfg(test)]
 mod reformats;
 #[cfg(test)]
 mod refusals;
+#[cfg(test)]
+mod saves;
+#[cfg(test)]
+mod wants;
