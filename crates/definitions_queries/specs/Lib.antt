@@ -1,0 +1,6 @@
+pub mod Tokens
+pub mod Queries
+pub mod Grammar
+pub mod Lexing
+pub mod Texts
+pub mod Entries

@@ -1,0 +1,15 @@
+pub mod ReaderLaws
+pub mod ListLaws
+pub mod LawfulParts
+pub mod SoundParts
+pub mod CompleteParts
+pub mod LoopLemmas
+pub mod DigitLemmas
+pub mod CuttingLemmas
+pub mod EntryLemmas
+pub mod QueriesLaws
+pub mod OutcomeLaws
+pub mod KeywordLemmas
+pub mod StringLemmas
+pub mod QueriesLoop
+pub mod QueryListLemmas

@@ -1,0 +1,13 @@
+use Rattle.std.proofs.Common.{◌≡◌, length}
+use Rattle.std.specs.Prelude.{codes}
+use Rattle.query_text.specs.Reading.{more, list_at, item_at}
+use Rattle.query_text.specs.Views.{tokens_view, items_view}
+use Rattle.query_text.proofs.LoopLemmas.{with_front}
+use Rattle.query_text.proofs.reading.items.Given as goal
+
+-- what was read and what is still read are the list
+abbrev pub invariant-loop-after : goal.invariant-loop-after
+invariant-loop-after l = with_front (items_view l.items.items) (more (codes ",") item_at (tokens_view l.rest)) ≡ list_at (codes ",") item_at (tokens_view l.fn.tokens)
+
+abbrev pub decreases-loop-after : goal.decreases-loop-after
+decreases-loop-after l = length l.rest

@@ -1,0 +1,64 @@
+use Rattle.std.proofs.Common.{◌≡◌, Ok, [], length, sym, ap, ◌∙◌, arith}
+use Rattle.definitions_queries.specs.Grammar.{Spells}
+use Rattle.definitions_queries.specs.Texts.{IsText}
+use Rattle.query_text.specs.Reading.{query_at}
+use Rattle.query_text.specs.Views.{tokens_view, query_view}
+use Rattle.query_text.specs.Readers.{StopsAs}
+use Rattle.query_text.specs.Cuts.{lexical_view}
+use Rattle.query_text.proofs.ReaderLaws.{pair_is}
+use Rattle.query_text.proofs.OutcomeLaws.{reads-query, read_is, error_after, stopped, spelled, not_stopped, one_outcome}
+use Rattle.query_text.proofs.EntryLemmas.{entries-fewer}
+use Rattle.query_text.proofs.text.read_query.Goals as goal
+
+pub returns-in-None-clause-read : goal.returns-in-None-clause-read
+returns-in-None-clause-read c =
+    let e : query_at (tokens_view c.in_ok-tokens.tokens.items) ≡ Ok (query_view c.in-Ok.query, []) = rw c.deref.ensures.value at c.in-Ok.ensures in
+    read_is Spells query_at reads-query c.args.bytes.now (tokens_view c.in_ok-tokens.tokens.items) (query_view c.in-Ok.query) (rw c.in-None.is at c.in_ok-tokens.ensures) e
+
+pub returns-in-None-clause-only : goal.returns-in-None-clause-only
+returns-in-None-clause-only c = λ query is.
+    let e : query_at (tokens_view c.in_ok-tokens.tokens.items) ≡ Ok (query_view c.in-Ok.query, []) = rw c.deref.ensures.value at c.in-Ok.ensures in
+    let s = spelled Spells query_at reads-query c.args.bytes.now (tokens_view c.in_ok-tokens.tokens.items) (lexical_view c.in_ok-tokens.error) query c.in_ok-tokens.ensures is in
+    (pair_is (query_view c.in-Ok.query) query [] [] (sym e ∙ s.1)).0
+
+pub returns-in-Ok-clause-only : goal.returns-in-Ok-clause-only
+returns-in-Ok-clause-only c = λ query is.
+    let s = spelled Spells query_at reads-query c.args.bytes.now (tokens_view c.in_ok-tokens.tokens.items) (lexical_view c.in_ok-tokens.error) query c.in_ok-tokens.ensures is in
+    let wrong = sym (ap lexical_view c.in-Some.is) ∙ s.0 in
+    absurd cc
+
+pub returns-in-Ok-clause-refused : goal.returns-in-Ok-clause-refused
+returns-in-Ok-clause-refused c =
+    let e : query_at (tokens_view c.in_ok-tokens.tokens.items) ≡ Ok (query_view c.in-Ok.query, []) = rw c.deref.ensures.value at c.in-Ok.ensures in
+    rw (c.ending.ensures, c.in-Some.is)
+    (error_after Spells query_at reads-query c.args.bytes.now (tokens_view c.in_ok-tokens.tokens.items) _ (query_view c.in-Ok.query) (rw c.in-Some.is at c.in_ok-tokens.ensures) e)
+
+pub returns-clause-only : goal.returns-clause-only
+returns-clause-only c = λ query is.
+    let f : StopsAs c.in-Err.stop (query_at (tokens_view c.in_ok-tokens.tokens.items)) = rw c.deref.ensures.value at c.in-Err.ensures in
+    let s = spelled Spells query_at reads-query c.args.bytes.now (tokens_view c.in_ok-tokens.tokens.items) (lexical_view c.in_ok-tokens.error) query c.in_ok-tokens.ensures is in
+    c.refusal.ensures ∙ not_stopped (query_at (tokens_view c.in_ok-tokens.tokens.items)) query (lexical_view c.in_ok-tokens.error) (length c.args.bytes.now) c.in-Err.stop f s.1
+
+pub returns-clause-refused : goal.returns-clause-refused
+returns-clause-refused c =
+    let f : StopsAs c.in-Err.stop (query_at (tokens_view c.in_ok-tokens.tokens.items)) = rw c.deref.ensures.value at c.in-Err.ensures in
+    rw c.refusal.ensures (stopped Spells query_at reads-query c.args.bytes.now (tokens_view c.in_ok-tokens.tokens.items) (lexical_view c.in_ok-tokens.error) c.in-Err.stop c.in_ok-tokens.ensures f)
+
+pub returns-in-None-clause-bounded : goal.returns-in-None-clause-bounded
+returns-in-None-clause-bounded c =
+    let e : query_at (tokens_view c.in_ok-tokens.tokens.items) ≡ Ok (query_view c.in-Ok.query, []) = rw c.deref.ensures.value at c.in-Ok.ensures in
+    let is : IsText c.args.bytes.now (query_view c.in-Ok.query) =
+    read_is Spells query_at reads-query c.args.bytes.now (tokens_view c.in_ok-tokens.tokens.items) (query_view c.in-Ok.query) (rw c.in-None.is at c.in_ok-tokens.ensures) e in
+    omega (arith, entries-fewer c.args.bytes.now (query_view c.in-Ok.query) is, c.requires)
+
+pub returns-in_err-tokens-clause-outcome : goal.returns-in_err-tokens-clause-outcome
+returns-in_err-tokens-clause-outcome c = one_outcome Spells query_at reads-query c.args.bytes.now
+
+pub returns-in-None-clause-outcome : goal.returns-in-None-clause-outcome
+returns-in-None-clause-outcome c = one_outcome Spells query_at reads-query c.args.bytes.now
+
+pub returns-in-Ok-clause-outcome : goal.returns-in-Ok-clause-outcome
+returns-in-Ok-clause-outcome c = one_outcome Spells query_at reads-query c.args.bytes.now
+
+pub returns-clause-outcome : goal.returns-clause-outcome
+returns-clause-outcome c = one_outcome Spells query_at reads-query c.args.bytes.now

@@ -1,0 +1,5 @@
+pub mod Reading
+pub mod Views
+pub mod Readers
+pub mod Cuts
+pub mod Errors

@@ -1,0 +1,102 @@
+//! Tables of texts with their outcomes.
+
+use crate::outcomes::{of_queries, of_query};
+use crate::tables::{LONG, OTHERS, QUERIES, REFUSED, REPLACED, SEVERAL};
+use std::alloc::{AllocError, Global};
+use std::process::Abort;
+use std::test::Fail;
+
+fn expect(
+    rt: &impl Abort,
+    alloc: Global,
+    text: &[u8],
+    expected: &str,
+    briefly: bool,
+) -> Result<(), AllocError> {
+    let found = of_query(alloc, text, briefly)?;
+    let equal = found.as_slice() == expected.as_bytes();
+    assert!(rt;
+        equal,
+        "{text:?} is answered by {found:?}, and not {expected}"
+    );
+    Ok(())
+}
+
+#[test]
+fn queries_are_read_with_their_places(rt: HostRuntime) -> Result<(), Fail> {
+    for (text, expected) in QUERIES {
+        expect(&rt, rt.alloc(), text, expected, false)?;
+    }
+    Ok(())
+}
+
+#[test]
+fn other_texts_are_refused_at_the_least_place(rt: HostRuntime) -> Result<(), Fail> {
+    for (text, expected) in REFUSED {
+        expect(&rt, rt.alloc(), text, expected, true)?;
+    }
+    Ok(())
+}
+
+#[test]
+fn several_queries_are_read_or_refused_as_one_text(rt: HostRuntime) -> Result<(), Fail> {
+    for (text, expected) in SEVERAL {
+        let found = of_queries(rt.alloc(), text)?;
+        let equal = found.as_slice() == expected.as_bytes();
+        assert!(&rt;
+            equal,
+            "{text:?} is answered by {found:?}, and not {expected}"
+        );
+    }
+    Ok(())
+}
+
+#[test]
+fn each_front_of_a_long_query_has_its_outcome(rt: HostRuntime) -> Result<(), Fail> {
+    for (text, outcomes) in LONG {
+        let mut expected = outcomes.split_whitespace();
+        for len in 0..text.len() + 1 {
+            let front = text.get(..len).unwrap_or(text);
+            expect(&rt, rt.alloc(), front, expected.next().unwrap_or(""), true)?;
+        }
+    }
+    Ok(())
+}
+
+/// The tokens with spaces between them, the one of this number replaced.
+fn with_other(
+    alloc: Global,
+    pieces: &[&str],
+    number: usize,
+    other: &str,
+) -> Result<Vec<u8>, AllocError> {
+    let mut text = Vec::new(alloc);
+    for (index, piece) in pieces.iter().enumerate() {
+        if index > 0 {
+            text.extend_from_slice(b" ")?;
+        }
+        let chosen = if index == number { other } else { *piece };
+        text.extend_from_slice(chosen.as_bytes())?;
+    }
+    Ok(text)
+}
+
+#[test]
+fn a_token_of_another_kind_is_refused_unless_it_fits(rt: HostRuntime) -> Result<(), Fail> {
+    for (pieces, outcomes) in REPLACED {
+        let mut expected = outcomes.split_whitespace();
+        for number in 0..pieces.len() {
+            for other in OTHERS {
+                let text = with_other(rt.alloc(), pieces, number, other)?;
+                expect(
+                    &rt,
+                    rt.alloc(),
+                    text.as_slice(),
+                    expected.next().unwrap_or(""),
+                    true,
+                )?;
+            }
+        }
+    }
+    Ok(())
+}
