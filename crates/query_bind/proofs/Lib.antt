@@ -1,0 +1,6 @@
+mod AccumulateLemmas
+mod IndexLemmas
+mod JoinLemmas
+mod NameLemmas
+mod PlaceLemmas
+mod SelectionLemmas

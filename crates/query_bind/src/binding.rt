@@ -1,0 +1,128 @@
+//! The binding of a query, step by step.
+
+ghost use Rattle.std.specs.Prelude.{◌≡◌, ◌≤◌, ◌==◌, length, map, IfOk};
+ghost use Rattle.std.specs.List.{find};
+ghost use Rattle.definitions_queries.specs.Entries.{entries, max_entries};
+ghost use Rattle.definitions_queries.specs.Grammar.{IsSpelled};
+ghost use Rattle.catalog_core.specs.LawfulSchemas.{IsSchema};
+ghost use Rattle.query_text.specs.Views.{word_view, words_view, query_view};
+ghost use Rattle.query_bind.specs.Binding.{column_of, joins_of, dimensions_of, bound_of};
+ghost use Rattle.query_bind.specs.Steps.{AnswersAs};
+ghost use Rattle.query_bind.specs.Views.{bound_view};
+
+use crate::bounds::{Bound, JoinTo};
+use crate::column_index::ColumnIndex;
+use crate::conditions::conditions_of;
+use crate::errors::BindError;
+use crate::mentions::columns_of;
+use crate::selection::{groups_of, items_of, order_of};
+use crate::tables::{fact_of, tables_of};
+use catalog_core::{ColumnId, Schema};
+use query_text::{Query, Word};
+use std::alloc::{AllocError, Global};
+use stream_core::List;
+
+/// The join to a dimension. There are fewer than 64.
+fn join_to(joins: &[JoinTo], table: u32) -> Option<JoinTo>
+    ensures { result ≡ find (λ to. to.key.table == table) joins.now }
+{
+    for to in joins {
+        if to.key.table == table {
+            return Some(*to);
+        }
+    }
+    None
+}
+
+/// The joins in the order of FROM: one to each dimension.
+fn joins_of(
+    alloc: Global,
+    fact: u32,
+    joins: &[JoinTo],
+    words: &[Word],
+    tables: &[u32],
+) -> Result<Vec<JoinTo>, BindError>
+    requires { length words.now ≡ length tables.now }
+    ensures { AnswersAs (λ ordered. ordered.items) (joins_of fact joins.now (words_view words.now) tables.now) result }
+{
+    let mut ordered = Vec::new(alloc);
+    for place in 0..tables.len() {
+        let word = &words[place];
+        let table = tables[place];
+        if table == fact {
+            continue;
+        }
+        let Some(to) = join_to(joins, table) else {
+            return Err(BindError::JoinMissing { at: word.at });
+        };
+        ordered.push(to)?;
+    }
+    Ok(ordered)
+}
+
+/// The tables of FROM but for the fact table.
+fn dimensions_of(alloc: Global, fact: u32, tables: &[u32]) -> Result<Vec<u32>, AllocError>
+    ensures { IfOk result (λ dimensions. dimensions.items ≡ dimensions_of fact tables.now) }
+{
+    let mut dimensions = Vec::new(alloc);
+    for table in tables {
+        if *table != fact {
+            dimensions.push(*table)?;
+        }
+    }
+    Ok(dimensions)
+}
+
+/// The columns of names that are there.
+fn columns_named(
+    alloc: Global,
+    index: &ColumnIndex,
+    words: &[Word],
+) -> Result<Vec<ColumnId>, AllocError>
+    ensures { IfOk result (λ columns. columns.items ≡ map (column_of index.now) (words_view words.now)) }
+{
+    let mut columns = Vec::with_capacity(alloc, words.len())?;
+    for word in words {
+        columns.push(index.column_of(word))?;
+    }
+    Ok(columns)
+}
+
+/// What a query says of the tables of a schema, or its first refusal, in the order of the steps: the tables of FROM, the fact table,
+/// the columns that are named, the conditions, missing joins, GROUP BY and SELECT, and ORDER BY.
+///
+/// The columns of the schema are put into an index first, and each name is looked up there, so the time grows with the query's length
+/// and the schema's. A binding keeps copies of the literals and nothing else of the query.
+pub fn bind(alloc: Global, query: &Query, schema: &Schema) -> Result<Bound, BindError>
+    requires lawful { IsSchema schema.now }
+    requires few { entries (query_view query.now) ≤ max_entries }
+    ensures bound { AnswersAs bound_view (bound_of schema.now (query_view query.now)) result }
+{
+    let tables = tables_of(alloc, schema, query.tables.as_slice())?;
+    let fact = fact_of(schema, query.tables.as_slice(), tables.as_slice())?;
+    let index = ColumnIndex::new(alloc, schema)?;
+    columns_of(alloc, &index, tables.as_slice(), query)?;
+    let conditions = conditions_of(alloc, &index, fact, query.conditions.as_slice())?;
+    let joins = joins_of(
+        alloc,
+        fact,
+        conditions.joins.as_slice(),
+        query.tables.as_slice(),
+        tables.as_slice(),
+    )?;
+    let groups = groups_of(alloc, query.groups.as_slice())?;
+    let selected = items_of(alloc, &index, &groups, query.items.as_slice())?;
+    let order = order_of(alloc, &groups, &selected.aliases, query.order.as_slice())?;
+    let dimensions = dimensions_of(alloc, fact, tables.as_slice())?;
+    let columns = columns_named(alloc, &index, query.groups.as_slice())?;
+    Ok(Bound {
+        fact,
+        dimensions: List::from_vec(dimensions),
+        joins: List::from_vec(joins),
+        conditions: List::from_vec(conditions.tests),
+        groups: List::from_vec(columns),
+        sums: List::from_vec(selected.sums),
+        items: List::from_vec(selected.items),
+        order: List::from_vec(order),
+    })
+}
