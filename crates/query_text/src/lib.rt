@@ -6,6 +6,7 @@
 #![tactic(auto)]
 
 mod conditions;
+mod laws;
 mod lexing;
 mod queries;
 mod query;
@@ -14,5 +15,6 @@ mod stop;
 mod text;
 mod tokens;
 
+pub use laws::one_outcome;
 pub use query::{Literal, Query, QueryCondition, QueryItem, QueryKey, SumShape, Test, Word};
 pub use text::{TextError, read_queries, read_query};

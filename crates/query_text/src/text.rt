@@ -2,8 +2,8 @@
 
 ghost use Rattle.std.specs.Prelude.{◌≡◌, ◌≤◌, [], List as Items, length, Option, Some, None, Result, Ok, Err, IfOk, IfErr, All};
 ghost use Rattle.definitions_queries.specs.Queries as said;
-ghost use Rattle.definitions_queries.specs.Grammar.{Spells, SpellsAll, IsSpelled, IsQuery, AreQueries};
-ghost use Rattle.definitions_queries.specs.Texts.{IsText, IsTextOfAll, HasOneOutcome};
+ghost use Rattle.definitions_queries.specs.Grammar.{IsSpelled, IsQuery, AreQueries};
+ghost use Rattle.definitions_queries.specs.Texts.{IsText, IsTextOfAll};
 ghost use Rattle.definitions_queries.specs.Entries.{entries, max_entries};
 ghost use Rattle.query_text.specs.declared.text.TextError.TheVariants.{Memory};
 ghost use Rattle.query_text.specs.Views.{query_view, queries_view};
@@ -72,14 +72,14 @@ pub fn read_query(alloc: Global, bytes: &[u8]) -> Result<Query, TextError>
     requires { length bytes.now ≤ 65536 }
     // What is read is what the text says.
     ensures read { IfOk result (λ query. IsText bytes.now (query_view query)) }
+    // It is spelled by tokens, so that it may be bound.
+    ensures spelled { IfOk result (λ query. IsSpelled (query_view query)) }
     // It has at most 65,536 entries, which is what binding asks for.
     ensures bounded { IfOk result (λ query. entries (query_view query) ≤ max_entries) }
     // What the text says is read, unless memory runs out.
     ensures only { (query : said.Query) → IsText bytes.now query → AnswersOnly query_view result query }
     // A refusal is that of the text: the one with the least place.
     ensures refused { IfErr result (λ e. Refuses IsQuery bytes.now (error_view e)) }
-    // The text says just one query or has just one refusal, and never both.
-    ensures outcome { HasOneOutcome Spells bytes.now }
 {
     let (tokens, error) = tokens(alloc, bytes)?;
     let len = bytes.len() as u64;
@@ -106,8 +106,6 @@ pub fn read_queries(alloc: Global, bytes: &[u8]) -> Result<List<Query>, TextErro
     ensures only { (queries : Items said.Query) → IsTextOfAll bytes.now queries → AnswersOnly queries_view result queries }
     // A refusal is that of the text: the one with the least place.
     ensures refused { IfErr result (λ e. Refuses AreQueries bytes.now (error_view e)) }
-    // The text says just one list of queries or has just one refusal, and never both.
-    ensures outcome { HasOneOutcome SpellsAll bytes.now }
 {
     let (tokens, error) = tokens(alloc, bytes)?;
     let len = bytes.len() as u64;

@@ -6,7 +6,7 @@ use Rattle.query_text.specs.Views.{tokens_view, queries_view}
 use Rattle.query_text.specs.Readers.{StopsAs}
 use Rattle.query_text.specs.Cuts.{lexical_view}
 use Rattle.query_text.proofs.ReaderLaws.{pair_is}
-use Rattle.query_text.proofs.OutcomeLaws.{reads-queries, read_is, error_after, stopped, spelled, not_stopped, one_outcome}
+use Rattle.query_text.proofs.OutcomeLaws.{reads-queries, read_is, error_after, stopped, spelled, not_stopped}
 use Rattle.query_text.proofs.QueryListLemmas.{each_spelled, each_bounded}
 use Rattle.query_text.proofs.text.read_queries.Goals as goal
 
@@ -57,15 +57,3 @@ returns-in-None-clause-bounded c =
     let is : IsTextOfAll c.args.bytes.now (queries_view c.in-Ok.queries) =
     read_is SpellsAll queries_at reads-queries c.args.bytes.now (tokens_view c.in_ok-tokens.tokens.items) (queries_view c.in-Ok.queries) (rw c.in-None.is at c.in_ok-tokens.ensures) e in
     each_bounded 65536 c.args.bytes.now c.in-Ok.queries c.requires is
-
-pub returns-in_err-tokens-clause-outcome : goal.returns-in_err-tokens-clause-outcome
-returns-in_err-tokens-clause-outcome c = one_outcome SpellsAll queries_at reads-queries c.args.bytes.now
-
-pub returns-in-None-clause-outcome : goal.returns-in-None-clause-outcome
-returns-in-None-clause-outcome c = one_outcome SpellsAll queries_at reads-queries c.args.bytes.now
-
-pub returns-in-Ok-clause-outcome : goal.returns-in-Ok-clause-outcome
-returns-in-Ok-clause-outcome c = one_outcome SpellsAll queries_at reads-queries c.args.bytes.now
-
-pub returns-clause-outcome : goal.returns-clause-outcome
-returns-clause-outcome c = one_outcome SpellsAll queries_at reads-queries c.args.bytes.now

@@ -6,7 +6,8 @@ use Rattle.query_text.specs.Views.{tokens_view, query_view}
 use Rattle.query_text.specs.Readers.{StopsAs}
 use Rattle.query_text.specs.Cuts.{lexical_view}
 use Rattle.query_text.proofs.ReaderLaws.{pair_is}
-use Rattle.query_text.proofs.OutcomeLaws.{reads-query, read_is, error_after, stopped, spelled, not_stopped, one_outcome}
+use Rattle.query_text.proofs.OutcomeLaws.{reads-query, read_is, error_after, stopped, spelled, not_stopped}
+use Rattle.query_text.proofs.SoundParts.{query-sound}
 use Rattle.query_text.proofs.EntryLemmas.{entries-fewer}
 use Rattle.query_text.proofs.text.read_query.Goals as goal
 
@@ -44,21 +45,14 @@ returns-clause-refused c =
     let f : StopsAs c.in-Err.stop (query_at (tokens_view c.in_ok-tokens.tokens.items)) = rw c.deref.ensures.value at c.in-Err.ensures in
     rw c.refusal.ensures (stopped Spells query_at reads-query c.args.bytes.now (tokens_view c.in_ok-tokens.tokens.items) (lexical_view c.in_ok-tokens.error) c.in-Err.stop c.in_ok-tokens.ensures f)
 
+pub returns-in-None-clause-spelled : goal.returns-in-None-clause-spelled
+returns-in-None-clause-spelled c =
+    let e : query_at (tokens_view c.in_ok-tokens.tokens.items) ≡ Ok (query_view c.in-Ok.query, []) = rw c.deref.ensures.value at c.in-Ok.ensures in
+    (tokens_view c.in_ok-tokens.tokens.items, (query-sound (tokens_view c.in_ok-tokens.tokens.items) (query_view c.in-Ok.query) [] e).0)
+
 pub returns-in-None-clause-bounded : goal.returns-in-None-clause-bounded
 returns-in-None-clause-bounded c =
     let e : query_at (tokens_view c.in_ok-tokens.tokens.items) ≡ Ok (query_view c.in-Ok.query, []) = rw c.deref.ensures.value at c.in-Ok.ensures in
     let is : IsText c.args.bytes.now (query_view c.in-Ok.query) =
     read_is Spells query_at reads-query c.args.bytes.now (tokens_view c.in_ok-tokens.tokens.items) (query_view c.in-Ok.query) (rw c.in-None.is at c.in_ok-tokens.ensures) e in
     omega (arith, entries-fewer c.args.bytes.now (query_view c.in-Ok.query) is, c.requires)
-
-pub returns-in_err-tokens-clause-outcome : goal.returns-in_err-tokens-clause-outcome
-returns-in_err-tokens-clause-outcome c = one_outcome Spells query_at reads-query c.args.bytes.now
-
-pub returns-in-None-clause-outcome : goal.returns-in-None-clause-outcome
-returns-in-None-clause-outcome c = one_outcome Spells query_at reads-query c.args.bytes.now
-
-pub returns-in-Ok-clause-outcome : goal.returns-in-Ok-clause-outcome
-returns-in-Ok-clause-outcome c = one_outcome Spells query_at reads-query c.args.bytes.now
-
-pub returns-clause-outcome : goal.returns-clause-outcome
-returns-clause-outcome c = one_outcome Spells query_at reads-query c.args.bytes.now

@@ -1,0 +1,11 @@
+//! The laws of texts of queries. Each call does nothing: its contract is the law.
+
+ghost use Rattle.std.specs.Prelude.{ℕ, List};
+ghost use Rattle.definitions_queries.specs.Grammar.{Spells, SpellsAll};
+ghost use Rattle.definitions_queries.specs.Texts.{HasOneOutcome};
+
+/// A text of any length says just one query, or has just one refusal, and never both. The same holds of lists of queries.
+pub fn one_outcome()
+    ensures query { (text : List ℕ) → HasOneOutcome Spells text }
+    ensures queries { (text : List ℕ) → HasOneOutcome SpellsAll text }
+{}
