@@ -1,5 +1,9 @@
 //! What a query's text says.
 
+ghost use Rattle.std.specs.Prelude.{◌≡◌, map, IfOk};
+ghost use Rattle.query_text.specs.Views.{literal_view, test_view};
+
+use std::alloc::{AllocError, Global};
 use stream_core::{Bytes, List};
 
 /// A name in lower case, and the place of its first byte in the text.
@@ -36,6 +40,21 @@ pub enum Literal {
     Text(Bytes),
 }
 
+impl Literal {
+    /// A copy with bytes of its own.
+    pub fn copied(&self, alloc: Global) -> Result<Literal, AllocError>
+        ensures { IfOk result (λ copy. literal_view copy ≡ literal_view self.now) }
+    {
+        match self {
+            Literal::Number(value) => Ok(Literal::Number(*value)),
+            Literal::Text(bytes) => {
+                let bytes = Vec::from_slice(alloc, bytes.as_slice())?;
+                Ok(Literal::Text(Bytes::from_vec(bytes)))
+            }
+        }
+    }
+}
+
 /// What a column's value is compared with. `OneOf` has at least one literal.
 #[derive(Drop)]
 pub enum Test {
@@ -46,6 +65,40 @@ pub enum Test {
     AtLeast(Literal),
     Between(Literal, Literal),
     OneOf(List<Literal>),
+}
+
+fn copied_literals(alloc: Global, literals: &[Literal]) -> Result<Vec<Literal>, AllocError>
+    ensures { IfOk result (λ copies. map literal_view copies.items ≡ map literal_view literals.now) }
+{
+    let mut copies = Vec::with_capacity(alloc, literals.len())?;
+    for literal in literals {
+        copies.push(literal.copied(alloc)?)?;
+    }
+    Ok(copies)
+}
+
+impl Test {
+    /// A copy with literals of its own.
+    pub fn copied(&self, alloc: Global) -> Result<Test, AllocError>
+        ensures { IfOk result (λ copy. test_view copy ≡ test_view self.now) }
+    {
+        match self {
+            Test::Equal(value) => Ok(Test::Equal(value.copied(alloc)?)),
+            Test::Below(value) => Ok(Test::Below(value.copied(alloc)?)),
+            Test::AtMost(value) => Ok(Test::AtMost(value.copied(alloc)?)),
+            Test::Above(value) => Ok(Test::Above(value.copied(alloc)?)),
+            Test::AtLeast(value) => Ok(Test::AtLeast(value.copied(alloc)?)),
+            Test::Between(low, high) => {
+                let low = low.copied(alloc)?;
+                let high = high.copied(alloc)?;
+                Ok(Test::Between(low, high))
+            }
+            Test::OneOf(values) => {
+                let values = copied_literals(alloc, values.as_slice())?;
+                Ok(Test::OneOf(List::from_vec(values)))
+            }
+        }
+    }
 }
 
 /// A condition of WHERE. `places` are those of the test's literals, in order.
