@@ -18,7 +18,7 @@ use std::alloc::{AllocError, Global};
 use stream_core::List;
 
 /// Why a text is refused: the refusal with the least place, or want of memory. Places count bytes from 0.
-#[derive(Drop)]
+#[derive(Clone, Copy, Debug, PartialEq, Eq)]
 pub enum TextError {
     /// A byte outside a string that begins no token.
     BadByte { at: u64 },
