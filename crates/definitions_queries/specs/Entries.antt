@@ -17,6 +17,6 @@ abbrev pub entries : Query → ℕ
 entries query =
     length query.items + length query.tables + total condition_entries query.conditions + length query.groups + length query.order
 
--- how many entries the query of a text of at most 65,536 bytes may have
+-- how many entries a query may have: as many as its text may have bytes
 abbrev pub max_entries : ℕ
 max_entries = 65536

@@ -5,6 +5,10 @@ use Rattle.definitions_queries.specs.Queries.{Query}
 use Rattle.definitions_queries.specs.Grammar.{Spells, SpellsAll, Language, Spelled, IsViable}
 use Rattle.definitions_queries.specs.Lexing.{LexicalError, AreTokens}
 
+-- how many bytes the text of a query, or of several, may have
+abbrev pub max_query : ℕ
+max_query = 65536
+
 -- ---- what a text says
 
 -- the text has no lexical error, and its tokens spell the value
@@ -12,12 +16,12 @@ abbrev pub Says : {A : Type 0} → (List Placed → A → Type 0) → List ℕ �
 Says spells text value = (tokens : List Placed) × AreTokens text tokens None × spells tokens value
 
 -- the text is that of the query
-abbrev pub IsText : List ℕ → Query → Type 0
-IsText = Says Spells
+abbrev pub IsQueryText : List ℕ → Query → Type 0
+IsQueryText = Says Spells
 
 -- the text is that of the queries, one after the other
-abbrev pub IsTextOfAll : List ℕ → List Query → Type 0
-IsTextOfAll = Says SpellsAll
+abbrev pub IsQueriesText : List ℕ → List Query → Type 0
+IsQueriesText = Says SpellsAll
 
 -- ---- where a text is refused
 

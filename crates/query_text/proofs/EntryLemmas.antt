@@ -7,7 +7,7 @@ use Rattle.definitions_queries.specs.Queries.{Word, SumShape, plain, product, di
 use Rattle.definitions_queries.specs.Grammar.{Part, the, a_name, a_literal, PlacedLiteral, place_of_literal, more_of, list_of, expression, alias, item, comparison, range, membership, alternative, alternatives, condition, direction, key, where_part, group_part, order_part, body_part, Spells}
 use Rattle.definitions_queries.specs.Entries.{total, condition_entries, entries}
 use Rattle.definitions_queries.specs.Lexing.{LexicalError, rest_after, is_white_space, GoesOn, AreTokens}
-use Rattle.definitions_queries.specs.Texts.{IsText}
+use Rattle.definitions_queries.specs.Texts.{IsQueryText}
 use Rattle.query_text.proofs.CuttingLemmas.{cut-less, length-rest_after}
 
 -- a part has at least these many tokens
@@ -148,5 +148,5 @@ pub tokens-within : (text : List ℕ) (tokens : List Placed) (error : Option Lex
 tokens-within text tokens error cuts =
     omega (arith, tokens-fewer (length text) tokens (rest_after is_white_space text) error cuts, length-rest_after is_white_space text)
 
-pub entries-fewer : (text : List ℕ) (query : Query) → IsText text query → entries query ≤ length text
+pub entries-fewer : (text : List ℕ) (query : Query) → IsQueryText text query → entries query ≤ length text
 entries-fewer text query (tokens, cuts, spells) = omega (arith, spelled-more query tokens spells, tokens-within text tokens None cuts)

@@ -6,7 +6,7 @@ use Rattle.definitions_queries.specs.Tokens.{Placed}
 use Rattle.definitions_queries.specs.Queries as said
 use Rattle.definitions_queries.specs.Grammar.{SpellsAll, IsSpelled}
 use Rattle.definitions_queries.specs.Entries.{entries}
-use Rattle.definitions_queries.specs.Texts.{IsTextOfAll}
+use Rattle.definitions_queries.specs.Texts.{IsQueriesText}
 use Rattle.query_text.specs.declared.query.Query.{Query}
 use Rattle.query_text.specs.Views.{query_view, queries_view}
 use Rattle.query_text.proofs.QueriesLaws.{Ends, Split, split_all, ends-stop, body-spelled}
@@ -32,12 +32,12 @@ may_be_bound most (query ∷ second ∷ queries) tokens few h =
     All-cons (MayBeBound most) query (second ∷ queries) (first_may most query (queries_view (second ∷ queries)) tokens few s)
     (may_be_bound most (second ∷ queries) ends.0 (omega (arith, few, body-more (query_view query) tokens s.middle s.first, reserved-more (codes ";") s.middle ends.0 ends.1)) ends.2)
 
-pub each_spelled : (most : ℕ) (text : List ℕ) (queries : List Query) → length text ≤ most → IsTextOfAll text (queries_view queries) → All (λ query. IsSpelled (query_view query)) queries
+pub each_spelled : (most : ℕ) (text : List ℕ) (queries : List Query) → length text ≤ most → IsQueriesText text (queries_view queries) → All (λ query. IsSpelled (query_view query)) queries
 each_spelled most text queries few (tokens, cuts, spells) =
     let all = may_be_bound most queries tokens (omega (arith, tokens-within text tokens None cuts)) spells in
     λ k d within. (all k d within).0
 
-pub each_bounded : (most : ℕ) (text : List ℕ) (queries : List Query) → length text ≤ most → IsTextOfAll text (queries_view queries) → All (λ query. entries (query_view query) ≤ most) queries
+pub each_bounded : (most : ℕ) (text : List ℕ) (queries : List Query) → length text ≤ most → IsQueriesText text (queries_view queries) → All (λ query. entries (query_view query) ≤ most) queries
 each_bounded most text queries few (tokens, cuts, spells) =
     let all = may_be_bound most queries tokens (omega (arith, tokens-within text tokens None cuts)) spells in
     λ k d within. (all k d within).1

@@ -3,7 +3,7 @@
 ghost use Rattle.std.specs.Prelude.{◌≡◌, ◌≤◌, [], List as Items, length, Option, Some, None, Result, Ok, Err, IfOk, IfErr, All};
 ghost use Rattle.definitions_queries.specs.Queries as said;
 ghost use Rattle.definitions_queries.specs.Grammar.{IsSpelled, IsQuery, AreQueries};
-ghost use Rattle.definitions_queries.specs.Texts.{IsText, IsTextOfAll};
+ghost use Rattle.definitions_queries.specs.Texts.{max_query, IsQueryText, IsQueriesText};
 ghost use Rattle.definitions_queries.specs.Entries.{entries, max_entries};
 ghost use Rattle.query_text.specs.declared.text.TextError.TheVariants.{Memory};
 ghost use Rattle.query_text.specs.Views.{query_view, queries_view};
@@ -69,15 +69,15 @@ fn refusal(stop: Stop, error: Option<LexicalError>, len: u64) -> TextError
 
 /// The query that a text says, or the text's first refusal. It reads the text once, and copies each name and string once.
 pub fn read_query(alloc: Global, bytes: &[u8]) -> Result<Query, TextError>
-    requires { length bytes.now ≤ 65536 }
+    requires { length bytes.now ≤ max_query }
     // What is read is what the text says.
-    ensures read { IfOk result (λ query. IsText bytes.now (query_view query)) }
+    ensures read { IfOk result (λ query. IsQueryText bytes.now (query_view query)) }
     // It is spelled by tokens, so that it may be bound.
     ensures spelled { IfOk result (λ query. IsSpelled (query_view query)) }
     // It has at most 65,536 entries, which is what binding asks for.
     ensures bounded { IfOk result (λ query. entries (query_view query) ≤ max_entries) }
     // What the text says is read, unless memory runs out.
-    ensures only { (query : said.Query) → IsText bytes.now query → AnswersOnly query_view result query }
+    ensures only { (query : said.Query) → IsQueryText bytes.now query → AnswersOnly query_view result query }
     // A refusal is that of the text: the one with the least place.
     ensures refused { IfErr result (λ e. Refuses IsQuery bytes.now (error_view e)) }
 {
@@ -95,15 +95,15 @@ pub fn read_query(alloc: Global, bytes: &[u8]) -> Result<Query, TextError>
 /// The queries that a text says, one after the other with `;` between them and perhaps at the end, or the text's first refusal. There is
 /// at least one query, and places are those in the whole text.
 pub fn read_queries(alloc: Global, bytes: &[u8]) -> Result<List<Query>, TextError>
-    requires { length bytes.now ≤ 65536 }
+    requires { length bytes.now ≤ max_query }
     // What is read is what the text says.
-    ensures read { IfOk result (λ queries. IsTextOfAll bytes.now (queries_view queries)) }
+    ensures read { IfOk result (λ queries. IsQueriesText bytes.now (queries_view queries)) }
     // Each query is spelled by tokens, so that it may be bound.
     ensures spelled { IfOk result (λ queries. All (λ query. IsSpelled (query_view query)) queries) }
     // Each has at most 65,536 entries, which is what binding asks for.
     ensures bounded { IfOk result (λ queries. All (λ query. entries (query_view query) ≤ max_entries) queries) }
     // What the text says is read, unless memory runs out.
-    ensures only { (queries : Items said.Query) → IsTextOfAll bytes.now queries → AnswersOnly queries_view result queries }
+    ensures only { (queries : Items said.Query) → IsQueriesText bytes.now queries → AnswersOnly queries_view result queries }
     // A refusal is that of the text: the one with the least place.
     ensures refused { IfErr result (λ e. Refuses AreQueries bytes.now (error_view e)) }
 {

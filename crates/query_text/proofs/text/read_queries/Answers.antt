@@ -1,6 +1,6 @@
 use Rattle.std.proofs.Common.{◌≡◌, Ok, [], length, sym, ap, ◌∙◌}
 use Rattle.definitions_queries.specs.Grammar.{SpellsAll}
-use Rattle.definitions_queries.specs.Texts.{IsTextOfAll}
+use Rattle.definitions_queries.specs.Texts.{max_query, IsQueriesText}
 use Rattle.query_text.specs.Reading.{queries_at}
 use Rattle.query_text.specs.Views.{tokens_view, queries_view}
 use Rattle.query_text.specs.Readers.{StopsAs}
@@ -47,13 +47,13 @@ returns-clause-refused c =
 pub returns-in-None-clause-spelled : goal.returns-in-None-clause-spelled
 returns-in-None-clause-spelled c =
     let e : queries_at (tokens_view c.in_ok-tokens.tokens.items) ≡ Ok (queries_view c.in-Ok.queries, []) = rw c.deref.ensures.value at c.in-Ok.ensures in
-    let is : IsTextOfAll c.args.bytes.now (queries_view c.in-Ok.queries) =
+    let is : IsQueriesText c.args.bytes.now (queries_view c.in-Ok.queries) =
     read_is SpellsAll queries_at reads-queries c.args.bytes.now (tokens_view c.in_ok-tokens.tokens.items) (queries_view c.in-Ok.queries) (rw c.in-None.is at c.in_ok-tokens.ensures) e in
-    each_spelled 65536 c.args.bytes.now c.in-Ok.queries c.requires is
+    each_spelled max_query c.args.bytes.now c.in-Ok.queries c.requires is
 
 pub returns-in-None-clause-bounded : goal.returns-in-None-clause-bounded
 returns-in-None-clause-bounded c =
     let e : queries_at (tokens_view c.in_ok-tokens.tokens.items) ≡ Ok (queries_view c.in-Ok.queries, []) = rw c.deref.ensures.value at c.in-Ok.ensures in
-    let is : IsTextOfAll c.args.bytes.now (queries_view c.in-Ok.queries) =
+    let is : IsQueriesText c.args.bytes.now (queries_view c.in-Ok.queries) =
     read_is SpellsAll queries_at reads-queries c.args.bytes.now (tokens_view c.in_ok-tokens.tokens.items) (queries_view c.in-Ok.queries) (rw c.in-None.is at c.in_ok-tokens.ensures) e in
-    each_bounded 65536 c.args.bytes.now c.in-Ok.queries c.requires is
+    each_bounded max_query c.args.bytes.now c.in-Ok.queries c.requires is

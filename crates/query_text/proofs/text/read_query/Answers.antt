@@ -1,6 +1,6 @@
 use Rattle.std.proofs.Common.{◌≡◌, Ok, [], length, sym, ap, ◌∙◌, arith}
 use Rattle.definitions_queries.specs.Grammar.{Spells}
-use Rattle.definitions_queries.specs.Texts.{IsText}
+use Rattle.definitions_queries.specs.Texts.{IsQueryText}
 use Rattle.query_text.specs.Reading.{query_at}
 use Rattle.query_text.specs.Views.{tokens_view, query_view}
 use Rattle.query_text.specs.Readers.{StopsAs}
@@ -53,6 +53,6 @@ returns-in-None-clause-spelled c =
 pub returns-in-None-clause-bounded : goal.returns-in-None-clause-bounded
 returns-in-None-clause-bounded c =
     let e : query_at (tokens_view c.in_ok-tokens.tokens.items) ≡ Ok (query_view c.in-Ok.query, []) = rw c.deref.ensures.value at c.in-Ok.ensures in
-    let is : IsText c.args.bytes.now (query_view c.in-Ok.query) =
+    let is : IsQueryText c.args.bytes.now (query_view c.in-Ok.query) =
     read_is Spells query_at reads-query c.args.bytes.now (tokens_view c.in_ok-tokens.tokens.items) (query_view c.in-Ok.query) (rw c.in-None.is at c.in_ok-tokens.ensures) e in
     omega (arith, entries-fewer c.args.bytes.now (query_view c.in-Ok.query) is, c.requires)
