@@ -6,6 +6,7 @@ pub mod CompleteParts
 pub mod LoopLemmas
 pub mod DigitLemmas
 pub mod CuttingLemmas
+pub mod PlaceLemmas
 pub mod EntryLemmas
 pub mod QueriesLaws
 pub mod OutcomeLaws

@@ -15,6 +15,6 @@ mod stop;
 mod text;
 mod tokens;
 
-pub use laws::one_outcome;
+pub use laws::{one_outcome, places_rise};
 pub use query::{Literal, Query, QueryCondition, QueryItem, QueryKey, SumShape, Test, Word};
 pub use text::{TextError, read_queries, read_query};
