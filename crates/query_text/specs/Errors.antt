@@ -28,7 +28,7 @@ AnswersOnly view (Err error) value = error_view error ≡ None
 
 -- ---- in the code's words
 
--- the refusal of a text of `len` bytes whose tokens can become a query and are none
+-- the refusal of a text of `len` bytes none of whose tokens is refused: the lexical error, or Syntax at the length
 abbrev pub end_refusal : Option LexicalError → ℕ → Refusal
 end_refusal None len = syntax len
 end_refusal (Some error) len = lexical error

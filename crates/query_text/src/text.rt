@@ -1,6 +1,6 @@
 //! The readers of texts: of a query, and of several.
 
-ghost use Rattle.std.specs.Prelude.{◌≡◌, ◌≤◌, [], List as Items, length, Option, Some, None, Result, Ok, Err, IfOk, IfErr, All};
+ghost use Rattle.std.specs.Prelude.{◌≡◌, ◌≤◌, List as Items, length, Some, IfOk, IfErr, All};
 ghost use Rattle.definitions_queries.specs.Queries as said;
 ghost use Rattle.definitions_queries.specs.Grammar.{IsSpelled, IsQuery, AreQueries};
 ghost use Rattle.definitions_queries.specs.Texts.{max_query, IsQueryText, IsQueriesText};
@@ -39,7 +39,7 @@ impl From<AllocError> for TextError {
     }
 }
 
-/// The refusal of a text of `len` bytes whose tokens can become a query and are none.
+/// The refusal of a text of `len` bytes none of whose tokens is refused: the lexical error, or Syntax at the length.
 fn ending(error: Option<LexicalError>, len: u64) -> TextError
     ensures { error_view result ≡ Some (end_refusal (lexical_view error) len) }
 {
