@@ -1,9 +1,9 @@
 //! The readers of conditions.
 
-ghost use Rattle.std.specs.Prelude.{◌≡◌, ℕ, List as Items, Option, Some, None, codes, length, MatchOption, IfOk};
+ghost use Rattle.std.specs.Prelude.{◌≡◌, codes, length, IfOk};
 ghost use Rattle.std.specs.Str.{str_to_ascii_lowercase};
-ghost use Rattle.query_text.specs.Reading.{split, the_reserved, more, list_at, literal_at, same_name_at, single_at, equal_at, between_at, membership_at, test_at, alternative_at, choices_at, alternatives_at, comparison_at, condition_at};
-ghost use Rattle.query_text.specs.Views.{reserved_text, tokens_view, word_view, literal_view, test_view, condition_view, conditions_view, content, placed_view, literals_view};
+ghost use Rattle.query_text.specs.Reading.{list_at, literal_at, same_name_at, single_at, equal_at, between_at, membership_at, test_at, alternative_at, choices_at, alternatives_at, condition_at};
+ghost use Rattle.query_text.specs.Views.{tokens_view, word_view, literal_view, test_view, condition_view, conditions_view, content, placed_view, literals_view};
 ghost use Rattle.query_text.specs.Readers.{sign_test, ReadsAs};
 
 use crate::query::{Literal, QueryCondition, Test, Word};

@@ -1,13 +1,13 @@
 //! Cutting a text into tokens, in one pass.
 
-ghost use Rattle.std.specs.Prelude.{◌≡◌, ℕ, ◌^◌, ◌<◌, ◌≤◌, ◌+◌, Bool, true, false, [], ◌∷◌, ◌++◌, List, length, take, drop, Option, Some, None, MatchOption, SomeIff, IfOk, IfSome, option_map};
+ghost use Rattle.std.specs.Prelude.{◌≡◌, ◌^◌, ◌<◌, ◌≤◌, true, false, [], ◌∷◌, length, MatchOption, SomeIff, IfOk, IfSome, option_map};
 ghost use Rattle.std.specs.Char.{is_ascii_digit};
 ghost use Rattle.std.specs.Str.{str_to_ascii_lowercase};
 ghost use Rattle.std.specs.List.{prefix_len, AllPass};
 ghost use Rattle.stream_core.specs.Names.{is_keyword};
 ghost use Rattle.definitions_queries.specs.Tokens as spec;
 ghost use Rattle.definitions_queries.specs.Lexing as cuts;
-ghost use Rattle.definitions_queries.specs.Lexing.{is_white_space, begins_word, continues_word, front, rest_after, value_of, is_symbol, quoted, AreTokens};
+ghost use Rattle.definitions_queries.specs.Lexing.{is_white_space, begins_word, front, rest_after, value_of, is_symbol, quoted, AreTokens};
 ghost use Rattle.query_text.specs.Views.{reserved_text, content, kind_view, tokens_view};
 ghost use Rattle.query_text.specs.Cuts.{class_test, string_length, Cuts, lexical_view};
 

@@ -1,8 +1,8 @@
 //! The readers of whole queries.
 
-ghost use Rattle.std.specs.Prelude.{◌≡◌, ℕ, List as Items, [], Ok, Option, Some, None, codes, length, MatchOption, IfOk};
-ghost use Rattle.query_text.specs.Reading.{place_of, list_at, key_at, direction_at, where_at, group_at, order_at, selected_at, body_at, close_at, end_at, finish_at, query_at, next_query, others, queries_at};
-ghost use Rattle.query_text.specs.Views.{reserved_text, tokens_view, words_view, word_view, conditions_view, key_view, keys_view, query_view, queries_view};
+ghost use Rattle.std.specs.Prelude.{◌≡◌, [], Ok, Some, None, codes, MatchOption};
+ghost use Rattle.query_text.specs.Reading.{list_at, key_at, direction_at, where_at, group_at, order_at, selected_at, body_at, finish_at, query_at, next_query, queries_at};
+ghost use Rattle.query_text.specs.Views.{tokens_view, words_view, conditions_view, key_view, keys_view, query_view, queries_view};
 ghost use Rattle.query_text.specs.Readers.{ReadsAs};
 
 use crate::conditions::conditions;

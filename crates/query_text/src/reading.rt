@@ -1,6 +1,6 @@
 //! The readers of words and items: each takes the tokens that are left, and gives what it read and the rest.
 
-ghost use Rattle.std.specs.Prelude.{◌≡◌, ℕ, List, Option, Some, None, option_map, map, codes, MatchOption, IfOk};
+ghost use Rattle.std.specs.Prelude.{◌≡◌, Some, None, option_map, codes, MatchOption, IfOk};
 ghost use Rattle.std.specs.Str.{str_to_ascii_lowercase};
 ghost use Rattle.query_text.specs.declared.stop.Stop.TheVariants.{Syntax};
 ghost use Rattle.query_text.specs.Reading.{place_of, split, the_reserved, a_word, reserved_at, name_at, list_at, alias_at, second_at, sum_at, item_at};
