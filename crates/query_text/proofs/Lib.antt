@@ -10,6 +10,7 @@ pub mod PlaceLemmas
 pub mod EntryLemmas
 pub mod QueriesLaws
 pub mod OutcomeLaws
+pub mod AnswerLemmas
 pub mod KeywordLemmas
 pub mod StringLemmas
 pub mod QueriesLoop

@@ -41,3 +41,14 @@ refusal_at None error len = end_refusal error len
 abbrev pub stop_refusal : Stop → Option LexicalError → ℕ → Option Refusal
 stop_refusal (stops.Syntax at) error len = Some (refusal_at at error len)
 stop_refusal stops.Memory error len = None
+
+-- what a text is answered by, from what reading its tokens gave
+abbrev pub answer_of : {X : Type 0} → Result X Stop → Option LexicalError → ℕ → Result X (Option Refusal)
+answer_of (Ok value) None len = Ok value
+answer_of (Ok value) (Some error) len = Err (Some (end_refusal (Some error) len))
+answer_of (Err stop) error len = Err (stop_refusal stop error len)
+
+-- the code answers so
+abbrev pub AnswersAs : {X : Type 0} → Result X TextError → Result X (Option Refusal) → Type 0
+AnswersAs (Ok value) answer = answer ≡ Ok value
+AnswersAs (Err error) answer = answer ≡ Err (error_view error)

@@ -8,7 +8,7 @@ ghost use Rattle.definitions_queries.specs.Entries.{entries, max_entries};
 ghost use Rattle.query_text.specs.declared.text.TextError.TheVariants.{Memory};
 ghost use Rattle.query_text.specs.Views.{query_view, queries_view};
 ghost use Rattle.query_text.specs.Cuts.{lexical_view};
-ghost use Rattle.query_text.specs.Errors.{error_view, end_refusal, stop_refusal, Refuses, AnswersOnly};
+ghost use Rattle.query_text.specs.Errors.{error_view, end_refusal, stop_refusal, answer_of, AnswersAs, Refuses, AnswersOnly};
 
 use crate::lexing::{LexicalError, LexicalFault, tokens};
 use crate::queries::{queries, query};
@@ -67,6 +67,23 @@ fn refusal(stop: Stop, error: Option<LexicalError>, len: u64) -> TextError
     }
 }
 
+/// The answer to a text of `len` bytes, from what reading its tokens gave.
+fn answer<T: Drop>(
+    read: Result<T, Stop>,
+    error: Option<LexicalError>,
+    len: u64,
+) -> Result<T, TextError>
+    ensures { AnswersAs result (answer_of read (lexical_view error) len) }
+{
+    match read {
+        Ok(value) => match error {
+            None => Ok(value),
+            Some(_) => Err(ending(error, len)),
+        },
+        Err(stop) => Err(refusal(stop, error, len)),
+    }
+}
+
 /// The query that a text says, or the text's first refusal. It reads the text once, and copies each name and string once.
 pub fn read_query(alloc: Global, bytes: &[u8]) -> Result<Query, TextError>
     requires { length bytes.now ≤ max_query }
@@ -82,14 +99,7 @@ pub fn read_query(alloc: Global, bytes: &[u8]) -> Result<Query, TextError>
     ensures refused { IfErr result (λ e. Refuses IsQuery bytes.now (error_view e)) }
 {
     let (tokens, error) = tokens(alloc, bytes)?;
-    let len = bytes.len() as u64;
-    match query(alloc, &tokens) {
-        Ok(query) => match error {
-            None => Ok(query),
-            Some(_) => Err(ending(error, len)),
-        },
-        Err(stop) => Err(refusal(stop, error, len)),
-    }
+    answer(query(alloc, &tokens), error, bytes.len() as u64)
 }
 
 /// The queries that a text says, one after the other with `;` between them and perhaps at the end, or the text's first refusal. There is
@@ -108,12 +118,5 @@ pub fn read_queries(alloc: Global, bytes: &[u8]) -> Result<List<Query>, TextErro
     ensures refused { IfErr result (λ e. Refuses AreQueries bytes.now (error_view e)) }
 {
     let (tokens, error) = tokens(alloc, bytes)?;
-    let len = bytes.len() as u64;
-    match queries(alloc, &tokens) {
-        Ok(queries) => match error {
-            None => Ok(queries),
-            Some(_) => Err(ending(error, len)),
-        },
-        Err(stop) => Err(refusal(stop, error, len)),
-    }
+    answer(queries(alloc, &tokens), error, bytes.len() as u64)
 }

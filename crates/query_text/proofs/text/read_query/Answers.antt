@@ -1,58 +1,36 @@
-use Rattle.std.proofs.Common.{◌≡◌, Ok, [], length, sym, ap, ◌∙◌, arith}
-use Rattle.definitions_queries.specs.Grammar.{Spells}
+use Rattle.std.proofs.Common.{◌≤◌, arith}
+use Rattle.std.proofs.lemmas.Result.{IfOk-weaker}
+use Rattle.definitions_queries.specs.Grammar.{Spells, IsSpelled}
 use Rattle.definitions_queries.specs.Texts.{IsQueryText}
+use Rattle.definitions_queries.specs.Entries.{entries, max_entries}
 use Rattle.query_text.specs.Reading.{query_at}
 use Rattle.query_text.specs.Views.{tokens_view, query_view}
-use Rattle.query_text.specs.Readers.{StopsAs}
 use Rattle.query_text.specs.Cuts.{lexical_view}
-use Rattle.query_text.proofs.ReaderLaws.{pair_is}
-use Rattle.query_text.proofs.OutcomeLaws.{reads-query, read_is, error_after, stopped, spelled, not_stopped}
-use Rattle.query_text.proofs.SoundParts.{query-sound}
+use Rattle.query_text.proofs.OutcomeLaws.{reads-query}
+use Rattle.query_text.proofs.AnswerLemmas.{Answered, answered}
 use Rattle.query_text.proofs.EntryLemmas.{entries-fewer}
 use Rattle.query_text.proofs.text.read_query.Goals as goal
+use Rattle.query_text.proofs.text.read_query.Goals.{After-drop-tokens}
 
-pub returns-in-None-clause-read : goal.returns-in-None-clause-read
-returns-in-None-clause-read c =
-    let e : query_at (tokens_view c.in_ok-tokens.tokens.items) ≡ Ok (query_view c.in-Ok.query, []) = rw c.deref.ensures.value at c.in-Ok.ensures in
-    read_is Spells query_at reads-query c.args.bytes.now (tokens_view c.in_ok-tokens.tokens.items) (query_view c.in-Ok.query) (rw c.in-None.is at c.in_ok-tokens.ensures) e
+all : (c : After-drop-tokens) → Answered Spells query_view c.args.bytes.now c.answer.result
+all c =
+    answered Spells query_at reads-query query_view c.args.bytes.now (tokens_view c.in_ok-tokens.tokens.items) (lexical_view c.in_ok-tokens.error) c.query.result c.answer.result c.in_ok-tokens.ensures
+    (rw c.deref.ensures.value at c.query.ensures) c.answer.ensures
 
-pub returns-in-None-clause-only : goal.returns-in-None-clause-only
-returns-in-None-clause-only c = λ query is.
-    let e : query_at (tokens_view c.in_ok-tokens.tokens.items) ≡ Ok (query_view c.in-Ok.query, []) = rw c.deref.ensures.value at c.in-Ok.ensures in
-    let s = spelled Spells query_at reads-query c.args.bytes.now (tokens_view c.in_ok-tokens.tokens.items) (lexical_view c.in_ok-tokens.error) query c.in_ok-tokens.ensures is in
-    (pair_is (query_view c.in-Ok.query) query [] [] (sym e ∙ s.1)).0
+pub returns-clause-read : goal.returns-clause-read
+returns-clause-read c = (all c).read
 
-pub returns-in-Ok-clause-only : goal.returns-in-Ok-clause-only
-returns-in-Ok-clause-only c = λ query is.
-    let s = spelled Spells query_at reads-query c.args.bytes.now (tokens_view c.in_ok-tokens.tokens.items) (lexical_view c.in_ok-tokens.error) query c.in_ok-tokens.ensures is in
-    let wrong = sym (ap lexical_view c.in-Some.is) ∙ s.0 in
-    absurd cc
+pub returns-clause-spelled : goal.returns-clause-spelled
+returns-clause-spelled c =
+    IfOk-weaker c.answer.result (λ query. IsQueryText c.args.bytes.now (query_view query)) (λ query. IsSpelled (query_view query)) (λ query is. (is.0, is.2)) (all c).read
 
-pub returns-in-Ok-clause-refused : goal.returns-in-Ok-clause-refused
-returns-in-Ok-clause-refused c =
-    let e : query_at (tokens_view c.in_ok-tokens.tokens.items) ≡ Ok (query_view c.in-Ok.query, []) = rw c.deref.ensures.value at c.in-Ok.ensures in
-    rw (c.ending.ensures, c.in-Some.is)
-    (error_after Spells query_at reads-query c.args.bytes.now (tokens_view c.in_ok-tokens.tokens.items) _ (query_view c.in-Ok.query) (rw c.in-Some.is at c.in_ok-tokens.ensures) e)
+pub returns-clause-bounded : goal.returns-clause-bounded
+returns-clause-bounded c =
+    IfOk-weaker c.answer.result (λ query. IsQueryText c.args.bytes.now (query_view query)) (λ query. entries (query_view query) ≤ max_entries)
+    (λ query is. omega (arith, entries-fewer c.args.bytes.now (query_view query) is, c.requires)) (all c).read
 
 pub returns-clause-only : goal.returns-clause-only
-returns-clause-only c = λ query is.
-    let f : StopsAs c.in-Err.stop (query_at (tokens_view c.in_ok-tokens.tokens.items)) = rw c.deref.ensures.value at c.in-Err.ensures in
-    let s = spelled Spells query_at reads-query c.args.bytes.now (tokens_view c.in_ok-tokens.tokens.items) (lexical_view c.in_ok-tokens.error) query c.in_ok-tokens.ensures is in
-    c.refusal.ensures ∙ not_stopped (query_at (tokens_view c.in_ok-tokens.tokens.items)) query (lexical_view c.in_ok-tokens.error) (length c.args.bytes.now) c.in-Err.stop f s.1
+returns-clause-only c = (all c).only
 
 pub returns-clause-refused : goal.returns-clause-refused
-returns-clause-refused c =
-    let f : StopsAs c.in-Err.stop (query_at (tokens_view c.in_ok-tokens.tokens.items)) = rw c.deref.ensures.value at c.in-Err.ensures in
-    rw c.refusal.ensures (stopped Spells query_at reads-query c.args.bytes.now (tokens_view c.in_ok-tokens.tokens.items) (lexical_view c.in_ok-tokens.error) c.in-Err.stop c.in_ok-tokens.ensures f)
-
-pub returns-in-None-clause-spelled : goal.returns-in-None-clause-spelled
-returns-in-None-clause-spelled c =
-    let e : query_at (tokens_view c.in_ok-tokens.tokens.items) ≡ Ok (query_view c.in-Ok.query, []) = rw c.deref.ensures.value at c.in-Ok.ensures in
-    (tokens_view c.in_ok-tokens.tokens.items, (query-sound (tokens_view c.in_ok-tokens.tokens.items) (query_view c.in-Ok.query) [] e).0)
-
-pub returns-in-None-clause-bounded : goal.returns-in-None-clause-bounded
-returns-in-None-clause-bounded c =
-    let e : query_at (tokens_view c.in_ok-tokens.tokens.items) ≡ Ok (query_view c.in-Ok.query, []) = rw c.deref.ensures.value at c.in-Ok.ensures in
-    let is : IsQueryText c.args.bytes.now (query_view c.in-Ok.query) =
-    read_is Spells query_at reads-query c.args.bytes.now (tokens_view c.in_ok-tokens.tokens.items) (query_view c.in-Ok.query) (rw c.in-None.is at c.in_ok-tokens.ensures) e in
-    omega (arith, entries-fewer c.args.bytes.now (query_view c.in-Ok.query) is, c.requires)
+returns-clause-refused c = (all c).refused
