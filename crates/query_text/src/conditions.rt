@@ -186,7 +186,7 @@ fn membership(
 }
 
 /// What stands after a column.
-#[tactic(auto, unfolding(crate::specs::Reading::test_at))]
+#[tactic(auto, unfolding(crate::specs::Reading::test_at, crate::specs::Reading::membership_at, crate::specs::Reading::reserved_at))]
 fn test(
     alloc: Global,
     column: Word,
@@ -194,25 +194,18 @@ fn test(
 ) -> Result<(QueryCondition, Tokens<'_>), Stop>
     ensures { ReadsAs (λ x. (condition_view x.0, tokens_view x.1.now)) result (test_at (word_view column) (tokens_view tokens.now)) }
 {
-    if let Some(rest) = rest_after(tokens, Reserved::Equal) {
-        return equal(alloc, column, rest);
+    let Some((first, rest)) = tokens.split_first() else {
+        return Err(stop_at(tokens));
+    };
+    match first.kind {
+        Kind::Reserved(Reserved::Equal) => equal(alloc, column, rest),
+        Kind::Reserved(Reserved::Less) => single(alloc, column, Sign::Below, rest),
+        Kind::Reserved(Reserved::AtMost) => single(alloc, column, Sign::AtMost, rest),
+        Kind::Reserved(Reserved::Greater) => single(alloc, column, Sign::Above, rest),
+        Kind::Reserved(Reserved::AtLeast) => single(alloc, column, Sign::AtLeast, rest),
+        Kind::Reserved(Reserved::Between) => between(alloc, column, rest),
+        _ => membership(alloc, column, tokens),
     }
-    if let Some(rest) = rest_after(tokens, Reserved::Less) {
-        return single(alloc, column, Sign::Below, rest);
-    }
-    if let Some(rest) = rest_after(tokens, Reserved::AtMost) {
-        return single(alloc, column, Sign::AtMost, rest);
-    }
-    if let Some(rest) = rest_after(tokens, Reserved::Greater) {
-        return single(alloc, column, Sign::Above, rest);
-    }
-    if let Some(rest) = rest_after(tokens, Reserved::AtLeast) {
-        return single(alloc, column, Sign::AtLeast, rest);
-    }
-    if let Some(rest) = rest_after(tokens, Reserved::Between) {
-        return between(alloc, column, rest);
-    }
-    membership(alloc, column, tokens)
 }
 
 /// This very name, in any case.
