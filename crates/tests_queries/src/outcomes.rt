@@ -52,3 +52,15 @@ pub fn of_queries(alloc: Global, text: &[u8]) -> Result<Vec<u8>, AllocError> {
         Err(error) => refusal_of(alloc, error),
     }
 }
+
+/// How many items a text of one query selects. A text that is refused has none.
+pub fn items_in(alloc: Global, text: &[u8]) -> Result<usize, AllocError> {
+    if text.len() > 65_536 {
+        return Ok(0);
+    }
+    match read_query(alloc, text) {
+        Ok(query) => Ok(query.items.as_slice().len()),
+        Err(TextError::Memory) => Err(AllocError),
+        Err(_) => Ok(0),
+    }
+}

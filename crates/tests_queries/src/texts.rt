@@ -1,6 +1,6 @@
 //! Tables of texts with their outcomes.
 
-use crate::outcomes::{of_queries, of_query};
+use crate::outcomes::{items_in, of_queries, of_query};
 use crate::tables::{LONG, OTHERS, QUERIES, REFUSED, REPLACED, SEVERAL};
 use std::alloc::{AllocError, Global};
 use std::process::Abort;
@@ -59,6 +59,9 @@ fn each_front_of_a_long_query_has_its_outcome(rt: HostRuntime) -> Result<(), Fai
             let front = text.get(..len).unwrap_or(text);
             expect(&rt, rt.alloc(), front, expected.next().unwrap_or(""), true)?;
         }
+        let further = expected.next().unwrap_or("");
+        let ended = further.is_empty();
+        assert!(&rt; ended, "no front of {text:?} has the outcome {further}");
     }
     Ok(())
 }
@@ -97,6 +100,50 @@ fn a_token_of_another_kind_is_refused_unless_it_fits(rt: HostRuntime) -> Result<
                 )?;
             }
         }
+        let further = expected.next().unwrap_or("");
+        let ended = further.is_empty();
+        assert!(&rt; ended, "no text of {pieces:?} has the outcome {further}");
+    }
+    Ok(())
+}
+
+/// A query of 65,536 bytes with 32,761 columns, if the last byte ends it.
+fn longest(alloc: Global, last: u8) -> Result<Vec<u8>, AllocError> {
+    let mut text = Vec::with_capacity(alloc, 65_536)?;
+    text.extend_from_slice(b"select a")?;
+    for _ in 0..32_760 {
+        text.extend_from_slice(b",a")?;
+    }
+    text.extend_from_slice(b" from t")?;
+    text.push(last)?;
+    Ok(text)
+}
+
+#[test]
+fn a_text_of_65536_bytes_is_read_whole(rt: HostRuntime) -> Result<(), Fail> {
+    let text = longest(rt.alloc(), b';')?;
+    let len = text.len();
+    assert!(&rt; len == 65_536, "the text has {len} bytes");
+    let items = items_in(rt.alloc(), text.as_slice())?;
+    assert!(&rt; items == 32_761, "{items} items are read");
+    Ok(())
+}
+
+#[test]
+fn a_text_of_65536_bytes_is_refused_at_its_last_byte(rt: HostRuntime) -> Result<(), Fail> {
+    for (last, expected) in [
+        (b')', "S65535"),
+        (b'!', "B65535"),
+        (b'\'', "O65535"),
+        (b',', "S65536"),
+    ] {
+        let text = longest(rt.alloc(), last)?;
+        let found = of_query(rt.alloc(), text.as_slice(), true)?;
+        let equal = found.as_slice() == expected.as_bytes();
+        assert!(&rt;
+            equal,
+            "with {last} at its end it is answered by {found:?}, and not {expected}"
+        );
     }
     Ok(())
 }
