@@ -1,7 +1,7 @@
 //! What a text is answered by, as a short text: the query, or the first letter of the refusal's cause and its place.
 
-use crate::printing::put_query;
-use query_text::{TextError, read_queries, read_query};
+use crate::printing::{put_query, put_test};
+use query_text::{QueryCondition, TextError, read_queries, read_query};
 use std::alloc::{AllocError, Global};
 
 fn refusal_of(alloc: Global, error: TextError) -> Result<Vec<u8>, AllocError> {
@@ -63,4 +63,20 @@ pub fn items_in(alloc: Global, text: &[u8]) -> Result<usize, AllocError> {
         Err(TextError::Memory) => Err(AllocError),
         Err(_) => Ok(0),
     }
+}
+
+/// Copies of the tests of a query, one after the other. A text that is refused has none.
+pub fn copies_in(alloc: Global, text: &[u8]) -> Result<Vec<u8>, AllocError> {
+    let mut out = Vec::new(alloc);
+    if text.len() > 65_536 {
+        return Ok(out);
+    }
+    if let Ok(query) = read_query(alloc, text) {
+        for condition in query.conditions.as_slice() {
+            if let QueryCondition::Compare { test, places, .. } = condition {
+                put_test(alloc, &mut out, &test.copied(alloc)?, places.as_slice())?;
+            }
+        }
+    }
+    Ok(out)
 }

@@ -89,7 +89,8 @@ fn put_literal(
     Ok(())
 }
 
-fn put_test(
+/// Appends a test with the places of its literals.
+pub fn put_test(
     alloc: Global,
     out: &mut Vec<u8>,
     test: &Test,

@@ -1,6 +1,6 @@
 //! Tables of texts with their outcomes.
 
-use crate::outcomes::{items_in, of_queries, of_query};
+use crate::outcomes::{copies_in, items_in, of_queries, of_query};
 use crate::tables::{LONG, OTHERS, QUERIES, REFUSED, REPLACED, SEVERAL};
 use std::alloc::{AllocError, Global};
 use std::process::Abort;
@@ -145,5 +145,17 @@ fn a_text_of_65536_bytes_is_refused_at_its_last_byte(rt: HostRuntime) -> Result<
             "with {last} at its end it is answered by {found:?}, and not {expected}"
         );
     }
+    Ok(())
+}
+
+#[test]
+fn copies_of_tests_say_the_same(rt: HostRuntime) -> Result<(), Fail> {
+    let text =
+        b"select a from t where a = 1 and a < 2 and a <= 3 and a > 4 and a >= 'x''y' and a between 5 and 'z' and a in (6, '', 7)";
+    let expected =
+        " = 1@26 < 2@36 <= 3@47 > 4@57 >= '120.39.121'@68 between 5@89&'122'@95 in 6@109&''@112&7@116";
+    let found = copies_in(rt.alloc(), text)?;
+    let equal = found.as_slice() == expected.as_bytes();
+    assert!(&rt; equal, "the copies are {found:?}, and not {expected}");
     Ok(())
 }
