@@ -1,8 +1,9 @@
 -- The definitions at worked texts, whose tokens were written down by hand.
-use Rattle.std.proofs.Common.{◌≡◌, ◌+◌, ℕ, false, List, [], ◌∷◌, Some, None, refl}
+use Rattle.std.proofs.Common.{◌≡◌, ◌+◌, ℕ, false, List, [], ◌∷◌, Some, None, inl, drop, refl}
 use Rattle.std.specs.Prelude.{codes}
 use Rattle.definitions_queries.specs.Tokens.{Placed, name, reserved, number, string}
-use Rattle.definitions_queries.specs.Queries.{Word, plain, column, sum, of_number, at_least, one_of, compare}
+use Rattle.definitions_queries.specs.Queries.{Word, plain, column, sum, of_number, below, at_least, one_of, compare, Query}
+use Rattle.definitions_queries.specs.Grammar.{item, condition, Spells}
 use Rattle.definitions_queries.specs.Lexing.{cut, token, fault, number_too_large, open_string, bad_byte, AreTokens}
 use Rattle.definitions_queries.specs.Places.{places_in}
 use Rattle.definitions_queries.specs.Entries.{entries}
@@ -57,3 +58,32 @@ entries_of_a_query : entries (record {
 }) ≡ 2 + 1 + (2 + 3) + 1 + 1
 unfolding word
 entries_of_a_query = refl
+
+-- select sum(a) from t where a < 7
+
+small : Query
+small = record {
+  items = sum plain (word 11 (codes "a")) None None ∷ [];
+  tables = word 19 (codes "t") ∷ [];
+  conditions = compare (word 27 (codes "a")) (below (of_number 7)) (31 ∷ []) ∷ [];
+  groups = [];
+  order = [];
+}
+
+small_tokens : List Placed
+small_tokens =
+    record { at = 0; token = reserved (codes "select") } ∷ record { at = 7; token = reserved (codes "sum") } ∷ record { at = 10; token = reserved (codes "(") } ∷ record { at = 11; token = name (codes "a") }
+    ∷ record { at = 12; token = reserved (codes ")") } ∷ record { at = 14; token = reserved (codes "from") } ∷ record { at = 19; token = name (codes "t") }
+    ∷ record { at = 21; token = reserved (codes "where") } ∷ record { at = 27; token = name (codes "a") } ∷ record { at = 29; token = reserved (codes "<") } ∷ record { at = 31; token = number 7 } ∷ []
+
+item_spelled : item (sum plain (word 11 (codes "a")) None None) (drop 1 small_tokens) (drop 5 small_tokens)
+unfolding word small_tokens
+item_spelled = (_, (7, refl), (_, (10, refl), (_, refl, (_, (12, refl), refl))))
+
+condition_spelled : condition (compare (word 27 (codes "a")) (below (of_number 7)) (31 ∷ [])) (drop 8 small_tokens) []
+unfolding word small_tokens
+condition_spelled = (31, refl, (_, refl, (_, (29, refl), refl)))
+
+spelled : Spells small_tokens small
+unfolding word small small_tokens
+spelled = (_, (_, (0, refl), (_, (_, item_spelled, refl), (_, (14, refl), (_, (_, refl, refl), (_, (_, (21, refl), (_, condition_spelled, refl)), (_, refl, refl)))))), inl refl)

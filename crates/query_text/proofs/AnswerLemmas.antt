@@ -8,7 +8,7 @@ use Rattle.query_text.specs.declared.stop.Stop.{Stop}
 use Rattle.query_text.specs.declared.text.TextError.{TextError}
 use Rattle.query_text.specs.Reading.{Reader}
 use Rattle.query_text.specs.Readers.{ReadsAs}
-use Rattle.query_text.specs.Errors.{error_view, stop_refusal, answer_of, AnswersAs, Refuses, AnswersOnly}
+use Rattle.query_text.specs.Errors.{error_view, stop_refusal, answer_of, IsAnsweredBy, Refuses, AnswersOnly}
 use Rattle.query_text.proofs.ReaderLaws.{pair_is}
 use Rattle.query_text.proofs.OutcomeLaws.{ReadsWhole, read_is, error_after, stopped, spelled, not_stopped}
 
@@ -25,7 +25,7 @@ err-is : {X : Type 0} (r : Result X (Option Refusal)) (a b : Option Refusal) →
 err-is r a b e f = cc
 
 pub answered : {X A : Type 0} (spells : List Placed → A → Type 0) (p : Reader A) → ReadsWhole spells p → (view : X → A) (text : List ℕ) (tokens : List Placed) (error : Option LexicalError) (read : Result X Stop) (result : Result X TextError)
-    → AreTokens text tokens error → ReadsAs (λ x. (view x, [])) read (p tokens) → AnswersAs result (answer_of read error (length text)) → Answered spells view text result
+    → AreTokens text tokens error → ReadsAs (λ x. (view x, [])) read (p tokens) → IsAnsweredBy result (answer_of read error (length text)) → Answered spells view text result
 answered spells p reads view text tokens None (Ok x) (Ok y) cuts reading e = record {
   read = subst (λ z. Says spells text (view z)) (ok-is (Ok x) x y refl e) (read_is spells p reads text tokens (view x) cuts reading);
   only = λ value says. (let s = spelled spells p reads text tokens None value cuts says in sym (ap view (ok-is (Ok x) x y refl e)) ∙ (pair_is (view x) value [] [] (sym reading ∙ s.1)).0);

@@ -49,6 +49,6 @@ answer_of (Ok value) (Some error) len = Err (Some (end_refusal (Some error) len)
 answer_of (Err stop) error len = Err (stop_refusal stop error len)
 
 -- the code answers so
-abbrev pub AnswersAs : {X : Type 0} → Result X TextError → Result X (Option Refusal) → Type 0
-AnswersAs (Ok value) answer = answer ≡ Ok value
-AnswersAs (Err error) answer = answer ≡ Err (error_view error)
+abbrev pub IsAnsweredBy : {X : Type 0} → Result X TextError → Result X (Option Refusal) → Type 0
+IsAnsweredBy (Ok value) answer = answer ≡ Ok value
+IsAnsweredBy (Err error) answer = answer ≡ Err (error_view error)

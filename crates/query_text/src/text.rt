@@ -8,7 +8,7 @@ ghost use Rattle.definitions_queries.specs.Entries.{entries, max_entries};
 ghost use Rattle.query_text.specs.declared.text.TextError.TheVariants.{Memory};
 ghost use Rattle.query_text.specs.Views.{query_view, queries_view};
 ghost use Rattle.query_text.specs.Cuts.{lexical_view};
-ghost use Rattle.query_text.specs.Errors.{error_view, end_refusal, stop_refusal, answer_of, AnswersAs, Refuses, AnswersOnly};
+ghost use Rattle.query_text.specs.Errors.{error_view, end_refusal, stop_refusal, answer_of, IsAnsweredBy, Refuses, AnswersOnly};
 
 use crate::lexing::{LexicalError, LexicalFault, tokens};
 use crate::queries::{queries, query};
@@ -73,7 +73,7 @@ fn answer<T: Drop>(
     error: Option<LexicalError>,
     len: u64,
 ) -> Result<T, TextError>
-    ensures { AnswersAs result (answer_of read (lexical_view error) len) }
+    ensures { IsAnsweredBy result (answer_of read (lexical_view error) len) }
 {
     match read {
         Ok(value) => match error {
@@ -89,7 +89,7 @@ pub fn read_query(alloc: Global, bytes: &[u8]) -> Result<Query, TextError>
     requires { length bytes.now ≤ max_query }
     // What is read is what the text says.
     ensures read { IfOk result (λ query. IsQueryText bytes.now (query_view query)) }
-    // It is spelled by tokens, so that it may be bound.
+    // It is spelled by tokens, so that its binding is lawful.
     ensures spelled { IfOk result (λ query. IsSpelled (query_view query)) }
     // It has at most 65,536 entries, which is what binding asks for.
     ensures bounded { IfOk result (λ query. entries (query_view query) ≤ max_entries) }
@@ -108,7 +108,7 @@ pub fn read_queries(alloc: Global, bytes: &[u8]) -> Result<List<Query>, TextErro
     requires { length bytes.now ≤ max_query }
     // What is read is what the text says.
     ensures read { IfOk result (λ queries. IsQueriesText bytes.now (queries_view queries)) }
-    // Each query is spelled by tokens, so that it may be bound.
+    // Each query is spelled by tokens, so that its binding is lawful.
     ensures spelled { IfOk result (λ queries. All (λ query. IsSpelled (query_view query)) queries) }
     // Each has at most 65,536 entries, which is what binding asks for.
     ensures bounded { IfOk result (λ queries. All (λ query. entries (query_view query) ≤ max_entries) queries) }
