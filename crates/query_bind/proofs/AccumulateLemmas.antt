@@ -2,6 +2,7 @@
 use Rattle.std.proofs.Common.{◌≡◌, ◌<◌, ◌≤◌, ℕ, ◌+◌, List, length, get_or, map, drop, drop_of_length-le}
 use Rattle.std.proofs.lemmas.List.{length-map}
 use Rattle.std.specs.Prelude.{◌≢◌, Result, Ok, Err, IsErrAnd}
+use Rattle.definitions_outcomes.specs.Computed.{Answers}
 use Rattle.definitions_outcomes.proofs.ComputedLaws.{items_from}
 use Rattle.query_bind.specs.Steps.{accumulate, AnswersAs}
 use Rattle.query_bind.specs.declared.errors.BindError.{BindError}
@@ -24,6 +25,12 @@ pub handed : {X A : Type 0} (view : X → A) (meaning : Result A BindError) (r :
     → (given ≢ refusal.Memory → meaning ≡ Err given) → AnswersAs view meaning r
 handed view meaning (Ok value) given same refuses = absurd same
 handed view meaning (Err one) given same refuses = rw same refuses
+
+-- the same where the code's result is the meaning
+pub handed_on : {A : Type 0} (meaning : Result A BindError) (r : Result A BindError) (given : BindError) → IsErrAnd r (λ one. one ≡ given)
+    → (given ≢ refusal.Memory → meaning ≡ Err given) → Answers refusal.Memory meaning r
+handed_on meaning (Ok value) given same refuses = absurd same
+handed_on meaning (Err one) given same refuses = rw same refuses
 
 pub wanting : {X A : Type 0} (view : X → A) (meaning : Result A BindError) (r : Result X BindError) → IsErrAnd r (λ one. one ≡ refusal.Memory) → AnswersAs view meaning r
 wanting view meaning (Ok value) same = absurd same

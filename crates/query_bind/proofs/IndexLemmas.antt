@@ -13,7 +13,7 @@ or_last (Some found) same value = Some found
 or_last None true value = Some value
 or_last None false value = None
 
-value_of-last : {V : Type 0} (names : List (List ℕ × V)) (name other : List ℕ) (value : V)
+pub value_of-last : {V : Type 0} (names : List (List ℕ × V)) (name other : List ℕ) (value : V)
     → value_of (names ++ (other, value) ∷ []) name ≡ or_last (value_of names name) (bytes_eq name other) value
 value_of-last {V} [] name other value = here (bytes_eq name other) where
   here : (same : Bool) → option_map (λ (entry : List ℕ × V). entry.1) (cond same (Some (other, value)) None) ≡ or_last None same value

@@ -1,5 +1,5 @@
 -- The binding of a query to a schema, or its first refusal, in seven steps.
-use Rattle.std.specs.Prelude.{ℕ, ◌+◌, Bool, true, false, ◌&&◌, ◌||◌, not, ◌==◌, nat_eq, List, [], ◌∷◌, ◌++◌, drop, filter, length, map, Option, Some, None, option_map, unwrap_or, ok_or, Result, Ok, Err, slice_get, slice_index_or, if◌then◌else◌}
+use Rattle.std.specs.Prelude.{ℕ, Bool, true, false, ◌&&◌, ◌||◌, not, ◌==◌, nat_eq, List, [], ◌∷◌, ◌++◌, filter, length, map, Option, Some, None, option_map, unwrap_or, ok_or, Result, Ok, Err, slice_index_or, ⊤, if◌then◌else◌}
 use Rattle.std.specs.List.{find, flat_map, list_any, position, zip}
 use Rattle.std.specs.Option.{option_map_or}
 use Rattle.std.specs.Str.{bytes_eq}
@@ -41,7 +41,7 @@ column_name schema id = option_map_or (λ one. one.name) (column_at schema id) [
 abbrev pub kind_of : Schema → ColumnId → Kind
 kind_of schema id = option_map_or (λ one. one.kind) (column_at schema id) kind.Number
 
--- the place of a dimension's key, and whether a column is the key of its table; a fact table has none
+-- the number of a dimension's key, and whether a column is the key of its table; a fact table has none
 abbrev pub key_of : Schema → ℕ → Option ℕ
 key_of schema table = option_map_or (λ one. one.key) (table_at schema table) None
 
@@ -71,21 +71,19 @@ tables_of schema words = accumulate (next_table schema) [] words
 
 -- ---- 2. just one of the tables is a fact table
 
--- the place in the text of the name of that number
-abbrev pub place_of : List Word → ℕ → ℕ
-place_of words number = option_map_or (λ word. word.at) (slice_get words number) 0
+-- where the first name stands
+abbrev pub first_place : List Word → ℕ
+first_place [] = 0
+first_place (word ∷ more) = word.at
 
--- no further fact table stands behind the first one
-abbrev pub only_fact : List Word → List ℕ → ℕ → Option ℕ → Result ℕ BindError
-only_fact words tables first None = Ok (slice_index_or tables first 0)
-only_fact words tables first (Some further) = Err (refusal.FactCount (place_of words (first + 1 + further)))
-
-abbrev pub first_fact : Schema → List Word → List ℕ → Option ℕ → Result ℕ BindError
-first_fact schema words tables None = Err (refusal.FactCount (place_of words 0))
-first_fact schema words tables (Some first) = only_fact words tables first (position (is_fact schema) (drop (first + 1) tables))
+-- the only one of the fact tables, which stand with their names: without one the first name is refused, and else the second fact table's
+abbrev pub only_fact : List Word → List (Word × ℕ) → Result ℕ BindError
+only_fact words [] = Err (refusal.FactCount (first_place words))
+only_fact words (one ∷ []) = Ok one.1
+only_fact words (one ∷ second ∷ more) = Err (refusal.FactCount second.0.at)
 
 abbrev pub fact_of : Schema → List Word → List ℕ → Result ℕ BindError
-fact_of schema words tables = first_fact schema words tables (position (is_fact schema) tables)
+fact_of schema words tables = only_fact words (filter (λ named. is_fact schema named.1) (zip words tables))
 
 -- ---- 3. the columns that SELECT, WHERE and GROUP BY name, from left to right, without aliases: each is of a table of FROM
 
@@ -109,8 +107,9 @@ column_in schema tables word =
     bind (ok_or (column_named schema word.text) (refusal.UnknownColumn word.at)) (λ id.
     if list_any (nat_eq id.table) tables then Ok id else Err (refusal.NotInFrom word.at))
 
-abbrev pub columns_of : Schema → List ℕ → List Word → Result (List ColumnId) BindError
-columns_of schema tables words = walk (λ number. column_in schema tables) 0 words
+abbrev pub are_of_from : Schema → List ℕ → List Word → Result ⊤ BindError
+are_of_from schema tables [] = Ok tt
+are_of_from schema tables (word ∷ more) = bind (column_in schema tables word) (λ _. are_of_from schema tables more)
 
 -- ---- 4. the conditions from left to right
 
@@ -184,14 +183,13 @@ conditions_of schema fact conditions = accumulate (next_condition schema fact) (
 
 -- ---- 5. each dimension of FROM is joined
 
-abbrev pub next_join : ℕ → List JoinTo → List JoinTo → Word × ℕ → Result (List JoinTo) BindError
-next_join fact joins earlier named =
-    if named.1 == fact then Ok earlier
-    else bind (ok_or (find (λ to. to.key.table == named.1) joins) (refusal.JoinMissing named.0.at)) (λ to. Ok (earlier ++ to ∷ []))
+-- the join to a table that stands with its name
+abbrev pub join_to : List JoinTo → Word × ℕ → Result JoinTo BindError
+join_to joins named = ok_or (find (λ to. to.key.table == named.1) joins) (refusal.JoinMissing named.0.at)
 
--- the joins in the order of FROM
+-- one join to each dimension, in the order of FROM
 abbrev pub joins_of : ℕ → List JoinTo → List Word → List ℕ → Result (List JoinTo) BindError
-joins_of fact joins words tables = accumulate (next_join fact joins) [] (zip words tables)
+joins_of fact joins words tables = walk (λ number. join_to joins) 0 (filter (λ named. not (named.1 == fact)) (zip words tables))
 
 -- ---- 6. the names of GROUP BY, of which none stands twice, and then the items of SELECT from left to right
 
@@ -224,7 +222,7 @@ second_in schema shape first None = Ok (operand.Plain first)
 second_in schema shape first (Some word) = bind (operand_in schema word) (λ second. Ok (shaped shape first second))
 
 abbrev pub sum_in : Schema → SumShape → Word → Option Word → Result SumOf BindError
-sum_in schema shape first second = bind (operand_in schema first) (λ operand. second_in schema shape operand second)
+sum_in schema shape first second = bind (operand_in schema first) (λ id. second_in schema shape id second)
 
 -- an alias is no column of GROUP BY and no earlier alias
 abbrev pub alias_in : List (List ℕ × ℕ) → List (List ℕ × ℕ) → ℕ → Option Word → Result (List (List ℕ × ℕ)) BindError
@@ -252,8 +250,8 @@ or_group groups name (Some number) = Some (item.Sum number)
 
 abbrev pub key_in : List (List ℕ × ℕ) → List (List ℕ × ℕ) → QueryKey → Result OrderKey BindError
 key_in groups aliases key =
-    bind (ok_or (or_group groups key.word.text (value_of aliases key.word.text)) (refusal.OrderUnknown key.word.at)) (λ item.
-    Ok (record { item = item; falling = key.falling }))
+    bind (ok_or (or_group groups key.word.text (value_of aliases key.word.text)) (refusal.OrderUnknown key.word.at)) (λ one.
+    Ok (record { item = one; falling = key.falling }))
 
 abbrev pub order_of : List (List ℕ × ℕ) → List (List ℕ × ℕ) → List QueryKey → Result (List OrderKey) BindError
 order_of groups aliases keys = walk (λ number. key_in groups aliases) 0 keys
@@ -278,7 +276,7 @@ abbrev pub bound_of : Schema → Query → Result Binding BindError
 bound_of schema query =
     bind (tables_of schema query.tables) (λ tables.
     bind (fact_of schema query.tables tables) (λ fact.
-    bind (columns_of schema tables (mentioned query)) (λ _.
+    bind (are_of_from schema tables (mentioned query)) (λ _.
     bind (conditions_of schema fact query.conditions) (λ conditions.
     bind (joins_of fact conditions.joins query.tables tables) (λ joins.
     bind (groups_of query.groups) (λ groups.

@@ -1,6 +1,9 @@
 pub mod Steps
 pub mod NameMaps
+pub mod Aliases
 pub mod Binding
 pub mod Indexes
-pub mod Mentions
 pub mod Views
+pub mod LawfulBindings
+pub mod Orders
+pub mod Needed

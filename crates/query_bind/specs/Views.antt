@@ -23,8 +23,8 @@ bound_view bound = record {
   order = bound.order;
 }
 
-abbrev pub sorted_view : Conditions → meant.Conditions
-sorted_view conditions = record { joins = conditions.joins.items; tests = map tested_view conditions.tests.items }
+abbrev pub parted_view : Conditions → meant.Conditions
+parted_view conditions = record { joins = conditions.joins.items; tests = map tested_view conditions.tests.items }
 
 abbrev pub selected_view : Selected → meant.Selected
 selected_view selected = record { items = selected.items.items; sums = selected.sums.items; aliases = selected.aliases }

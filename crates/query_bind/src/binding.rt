@@ -1,12 +1,13 @@
 //! The binding of a query, step by step.
 
-ghost use Rattle.std.specs.Prelude.{◌≡◌, ◌≤◌, ◌==◌, length, map, IfOk};
-ghost use Rattle.std.specs.List.{find};
+ghost use Rattle.std.specs.Prelude.{◌≡◌, ◌≤◌, length, map, IfOk};
+ghost use Rattle.definitions_outcomes.specs.Computed.{Answers};
 ghost use Rattle.definitions_queries.specs.Entries.{entries, max_entries};
 ghost use Rattle.definitions_queries.specs.Grammar.{IsSpelled};
 ghost use Rattle.catalog_core.specs.LawfulSchemas.{IsSchema};
 ghost use Rattle.query_text.specs.Views.{word_view, words_view, query_view};
-ghost use Rattle.query_bind.specs.Binding.{column_of, joins_of, dimensions_of, bound_of};
+ghost use Rattle.query_bind.specs.Binding.{column_of, join_to, joins_of, dimensions_of, bound_of};
+ghost use Rattle.query_bind.specs.LawfulBindings.{IsBinding};
 ghost use Rattle.query_bind.specs.Steps.{AnswersAs};
 ghost use Rattle.query_bind.specs.Views.{bound_view};
 
@@ -14,7 +15,7 @@ use crate::bounds::{Bound, JoinTo};
 use crate::column_index::ColumnIndex;
 use crate::conditions::conditions_of;
 use crate::errors::BindError;
-use crate::mentions::columns_of;
+use crate::mentions::check_columns;
 use crate::selection::{groups_of, items_of, order_of};
 use crate::tables::{fact_of, tables_of};
 use catalog_core::{ColumnId, Schema};
@@ -23,15 +24,15 @@ use std::alloc::{AllocError, Global};
 use stream_core::List;
 
 /// The join to a dimension. There are fewer than 64.
-fn join_to(joins: &[JoinTo], table: u32) -> Option<JoinTo>
-    ensures { result ≡ find (λ to. to.key.table == table) joins.now }
+fn join_to(joins: &[JoinTo], word: &Word, table: u32) -> Result<JoinTo, BindError>
+    ensures { Answers BindError.Memory (join_to joins.now (word_view word.now, table)) result }
 {
     for to in joins {
         if to.key.table == table {
-            return Some(*to);
+            return Ok(*to);
         }
     }
-    None
+    Err(BindError::JoinMissing { at: word.at })
 }
 
 /// The joins in the order of FROM: one to each dimension.
@@ -52,10 +53,7 @@ fn joins_of(
         if table == fact {
             continue;
         }
-        let Some(to) = join_to(joins, table) else {
-            return Err(BindError::JoinMissing { at: word.at });
-        };
-        ordered.push(to)?;
+        ordered.push(join_to(joins, word, table)?)?;
     }
     Ok(ordered)
 }
@@ -97,11 +95,12 @@ pub fn bind(alloc: Global, query: &Query, schema: &Schema) -> Result<Bound, Bind
     requires lawful { IsSchema schema.now }
     requires few { entries (query_view query.now) ≤ max_entries }
     ensures bound { AnswersAs bound_view (bound_of schema.now (query_view query.now)) result }
+    ensures lawful { IfOk result (λ bound. IsSpelled (query_view query.now) → IsBinding schema.now (bound_view bound)) }
 {
     let tables = tables_of(alloc, schema, query.tables.as_slice())?;
     let fact = fact_of(schema, query.tables.as_slice(), tables.as_slice())?;
     let index = ColumnIndex::new(alloc, schema)?;
-    columns_of(alloc, &index, tables.as_slice(), query)?;
+    check_columns(&index, tables.as_slice(), query)?;
     let conditions = conditions_of(alloc, &index, fact, query.conditions.as_slice())?;
     let joins = joins_of(
         alloc,

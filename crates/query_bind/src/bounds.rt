@@ -24,7 +24,7 @@ pub enum SumOf {
     Plain(ColumnId),
     /// The product of both in each row.
     Product(ColumnId, ColumnId),
-    /// The sum of the first without the sum of the second.
+    /// The sum of the first less the sum of the second.
     Difference(ColumnId, ColumnId),
 }
 

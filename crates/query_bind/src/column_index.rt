@@ -3,9 +3,8 @@
 ghost use Rattle.std.specs.Prelude.{◌≡◌, ℕ, List, option_copied, IfOk, OnOk};
 ghost use Rattle.std.specs.List.{find};
 ghost use Rattle.std.specs.Str.{bytes_eq};
-ghost use Rattle.definitions_queries.specs.Queries as said;
 ghost use Rattle.catalog_core.specs.LawfulSchemas.{IsSchema};
-ghost use Rattle.catalog_core.specs.Columns.{column_at, needs_of_all};
+ghost use Rattle.catalog_core.specs.Columns.{column_at};
 ghost use Rattle.query_text.specs.Views.{word_view};
 ghost use Rattle.query_bind.specs.Binding.{column_name, kind_of, key_of, is_key, column_named, column_of};
 ghost use Rattle.query_bind.specs.NameMaps.{value_of, with_name};

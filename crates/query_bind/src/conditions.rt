@@ -1,16 +1,15 @@
 //! The conditions of a query: joins of dimensions to the fact table, and tests of columns.
 
-ghost use Rattle.std.specs.Prelude.{◌≡◌, ◌≢◌, ◌∷◌, [], not, map, slice_index_or, Ok, Err, IfErr, OnOk};
+ghost use Rattle.std.specs.Prelude.{◌≡◌, ◌≢◌, ◌∷◌, [], not, slice_index_or, Ok, Err, IfErr, OnOk};
 ghost use Rattle.std.specs.List.{position};
 ghost use Rattle.definitions_outcomes.specs.Computed.{Answers};
 ghost use Rattle.query_text.specs.Views.{word_view, literal_view, test_view, condition_view, conditions_view};
-ghost use Rattle.query_bind.specs.Binding.{can_join, join_of, is_joined, join_in, fits, misfit, test_in, next_condition, conditions_of, next_join, joins_of};
+ghost use Rattle.query_bind.specs.Binding.{can_join, join_of, is_joined, join_in, fits, misfit, test_in, next_condition, conditions_of};
 ghost use Rattle.query_bind.specs.Steps.{AnswersAs};
-ghost use Rattle.query_bind.specs.Views.{tested_view, sorted_view};
+ghost use Rattle.query_bind.specs.Views.{tested_view, parted_view};
 
 use crate::bounds::{Condition, JoinTo};
 use crate::column_index::ColumnIndex;
-use crate::copies::copied_test;
 use crate::errors::BindError;
 use catalog_core::{ColumnId, Kind};
 use query_text::{Literal, QueryCondition, Test, Word};
@@ -143,7 +142,7 @@ fn test_in(
         }),
         None => Ok(Condition {
             column,
-            test: copied_test(alloc, test)?,
+            test: test.copied(alloc)?,
         }),
     }
 }
@@ -156,8 +155,8 @@ fn push_condition(
     earlier: &mut Conditions,
     condition: &QueryCondition,
 ) -> Result<(), BindError>
-    ensures next { OnOk result (next_condition index.now fact (sorted_view earlier.old) (condition_view condition.now) ≡ Ok (sorted_view earlier.new)) }
-    ensures refused { IfErr result (λ error. error ≢ BindError.Memory → next_condition index.now fact (sorted_view earlier.old) (condition_view condition.now) ≡ Err error) }
+    ensures next { OnOk result (next_condition index.now fact (parted_view earlier.old) (condition_view condition.now) ≡ Ok (parted_view earlier.new)) }
+    ensures refused { IfErr result (λ error. error ≢ BindError.Memory → next_condition index.now fact (parted_view earlier.old) (condition_view condition.now) ≡ Err error) }
 {
     match condition {
         QueryCondition::Join { left, right } => {
@@ -183,7 +182,7 @@ pub fn conditions_of(
     fact: u32,
     conditions: &[QueryCondition],
 ) -> Result<Conditions, BindError>
-    ensures { AnswersAs sorted_view (conditions_of index.now fact (conditions_view conditions.now)) result }
+    ensures { AnswersAs parted_view (conditions_of index.now fact (conditions_view conditions.now)) result }
 {
     let mut sorted = Conditions {
         joins: Vec::new(alloc),

@@ -1,6 +1,6 @@
 //! The columns of GROUP BY, the items of SELECT and the keys of ORDER BY.
 
-ghost use Rattle.std.specs.Prelude.{◌≡◌, ◌≢◌, ◌≤◌, ◌<◌, ◌+◌, length, map, Ok, Err, IfOk, IfErr, OnOk, option_map};
+ghost use Rattle.std.specs.Prelude.{◌≡◌, ◌≢◌, ◌≤◌, ◌<◌, ◌+◌, length, map, Ok, Err, IfErr, OnOk, option_map};
 ghost use Rattle.definitions_outcomes.specs.Computed.{Answers};
 ghost use Rattle.definitions_queries.specs.Entries.{max_entries};
 ghost use Rattle.query_text.specs.Views.{word_view, words_view, shape_view, item_view, items_view, key_view, keys_view};
@@ -9,6 +9,7 @@ ghost use Rattle.query_bind.specs.NameMaps.{value_of};
 ghost use Rattle.query_bind.specs.Steps.{AnswersAs};
 ghost use Rattle.query_bind.specs.Views.{selected_view};
 
+use crate::alias_map::AliasMap;
 use crate::bounds::{Item, OrderKey, SumOf};
 use crate::column_index::ColumnIndex;
 use crate::errors::BindError;
@@ -22,7 +23,7 @@ use std::alloc::Global;
 pub struct Selected<'a> {
     pub items: Vec<Item>,
     pub sums: Vec<SumOf>,
-    pub aliases: NameMap<'a, u32>,
+    pub aliases: AliasMap<'a>,
 }
 
 /// Adds a column of GROUP BY, which was not named before.
@@ -109,7 +110,7 @@ fn sum_in(
 /// Adds an alias, which is no column of GROUP BY and no earlier alias.
 fn push_alias<'a>(
     groups: &NameMap<'a, u32>,
-    aliases: &mut NameMap<'a, u32>,
+    aliases: &mut AliasMap<'a>,
     number: u32,
     alias: &'a Option<Word>,
 ) -> Result<(), BindError>
@@ -177,7 +178,7 @@ pub fn items_of<'a>(
     let mut selected = Selected {
         items: Vec::new(alloc),
         sums: Vec::new(alloc),
-        aliases: NameMap::new(alloc),
+        aliases: AliasMap::new(alloc),
     };
     for item in items {
         push_item(index, groups, &mut selected, item)?;
@@ -186,7 +187,7 @@ pub fn items_of<'a>(
 }
 
 /// What a name of ORDER BY stands for.
-fn item_named(groups: &NameMap<u32>, aliases: &NameMap<u32>, name: &[u8]) -> Option<Item>
+fn item_named(groups: &NameMap<u32>, aliases: &AliasMap, name: &[u8]) -> Option<Item>
     ensures { result ≡ or_group groups.now name.now (value_of aliases.now name.now) }
 {
     if let Some(number) = aliases.get(name) {
@@ -198,11 +199,7 @@ fn item_named(groups: &NameMap<u32>, aliases: &NameMap<u32>, name: &[u8]) -> Opt
     }
 }
 
-fn key_in(
-    groups: &NameMap<u32>,
-    aliases: &NameMap<u32>,
-    key: &QueryKey,
-) -> Result<OrderKey, BindError>
+fn key_in(groups: &NameMap<u32>, aliases: &AliasMap, key: &QueryKey) -> Result<OrderKey, BindError>
     ensures { Answers BindError.Memory (key_in groups.now aliases.now (key_view key.now)) result }
 {
     match item_named(groups, aliases, key.word.text.as_slice()) {
@@ -218,7 +215,7 @@ fn key_in(
 pub fn order_of(
     alloc: Global,
     groups: &NameMap<u32>,
-    aliases: &NameMap<u32>,
+    aliases: &AliasMap,
     keys: &[QueryKey],
 ) -> Result<Vec<OrderKey>, BindError>
     ensures { AnswersAs (λ order. order.items) (order_of groups.now aliases.now (keys_view keys.now)) result }

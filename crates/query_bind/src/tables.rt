@@ -1,12 +1,11 @@
 //! The tables of FROM, and the fact table among them.
 
-ghost use Rattle.std.specs.Prelude.{◌≡◌, ◌<◌, ◌≤◌, length, map, IfOk, IfSome};
-ghost use Rattle.std.specs.List.{position, AllByRecursion};
+ghost use Rattle.std.specs.Prelude.{◌≡◌, ◌<◌, length, IfOk};
 ghost use Rattle.definitions_outcomes.specs.Computed.{Answers};
 ghost use Rattle.catalog_core.specs.LawfulSchemas.{IsSchema};
 ghost use Rattle.catalog_core.specs.Columns.{table_named};
 ghost use Rattle.query_text.specs.Views.{word_view, words_view};
-ghost use Rattle.query_bind.specs.Binding.{is_fact, table_in, tables_of, place_of, fact_of};
+ghost use Rattle.query_bind.specs.Binding.{is_fact, table_in, tables_of, first_place, fact_of};
 ghost use Rattle.query_bind.specs.Steps.{AnswersAs};
 
 use crate::errors::BindError;
@@ -65,19 +64,11 @@ fn is_fact(schema: &Schema, table: u32) -> bool
     }
 }
 
-/// The place of the first fact table.
-fn fact_place(schema: &Schema, tables: &[u32]) -> Option<usize>
-    ensures place { result ≡ position (is_fact schema.now) tables.now }
-    ensures within { IfSome result (λ place. place < length tables.now) }
+/// Where the first name of FROM stands in the text.
+fn first_place(words: &[Word]) -> u64
+    ensures { result ≡ first_place (words_view words.now) }
 {
-    tables.iter().position(|table| is_fact(schema, *table))
-}
-
-/// Where a name of FROM stands in the text.
-fn place_of(words: &[Word], number: usize) -> u64
-    ensures { result ≡ place_of (words_view words.now) number }
-{
-    match words.get(number) {
+    match words.first() {
         Some(word) => word.at,
         None => 0,
     }
@@ -85,18 +76,25 @@ fn place_of(words: &[Word], number: usize) -> u64
 
 /// The one fact table of FROM.
 pub fn fact_of(schema: &Schema, words: &[Word], tables: &[u32]) -> Result<u32, BindError>
+    requires { length words.now ≡ length tables.now }
     ensures { Answers BindError.Memory (fact_of schema.now (words_view words.now) tables.now) result }
 {
-    let Some(first) = fact_place(schema, tables) else {
-        return Err(BindError::FactCount {
-            at: place_of(words, 0),
-        });
-    };
-    let behind = first + 1;
-    match fact_place(schema, &tables[behind..]) {
-        Some(further) => Err(BindError::FactCount {
-            at: place_of(words, behind + further),
+    let mut fact = None;
+    for place in 0..tables.len() {
+        let word = &words[place];
+        let table = tables[place];
+        if !is_fact(schema, table) {
+            continue;
+        }
+        if fact.is_some() {
+            return Err(BindError::FactCount { at: word.at });
+        }
+        fact = Some(table);
+    }
+    match fact {
+        Some(table) => Ok(table),
+        None => Err(BindError::FactCount {
+            at: first_place(words),
         }),
-        None => Ok(tables[first]),
     }
 }

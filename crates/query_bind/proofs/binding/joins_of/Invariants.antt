@@ -1,10 +1,14 @@
-use Rattle.std.proofs.Common.{◌≡◌, drop}
+use Rattle.std.proofs.Common.{◌≡◌, drop, filter, length, not}
+use Rattle.std.specs.Prelude.{◌==◌}
 use Rattle.std.specs.List.{zip}
+use Rattle.definitions_outcomes.specs.Computed.{walk}
+use Rattle.definitions_outcomes.proofs.ComputedLaws.{after}
 use Rattle.query_text.specs.Views.{words_view}
-use Rattle.query_bind.specs.Binding.{next_join, joins_of}
-use Rattle.query_bind.specs.Steps.{accumulate}
+use Rattle.query_bind.specs.Binding.{join_to, joins_of}
 use Rattle.query_bind.proofs.binding.joins_of.Given as goal
 
--- what the rest adds to the joins so far
+-- the joins so far, and then those to the dimensions that are left
 abbrev pub invariant-loop-place : goal.invariant-loop-place
-invariant-loop-place l = joins_of l.fact l.joins (words_view l.words) l.tables ≡ accumulate (next_join l.fact l.joins) l.ordered.items (drop l.place (zip (words_view l.words) l.tables))
+invariant-loop-place l = joins_of l.fact l.joins (words_view l.words) l.tables
+    ≡ after l.ordered.items (walk (λ number. join_to l.joins) (length l.ordered.items)
+    (filter (λ named. not (named.1 == l.fact)) (drop l.place (zip (words_view l.words) l.tables))))
