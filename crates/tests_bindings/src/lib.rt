@@ -7,8 +7,6 @@
 #[cfg(test)]
 mod outcomes;
 #[cfg(test)]
-mod printing;
-#[cfg(test)]
 mod tables;
 #[cfg(test)]
 mod texts;

@@ -1,9 +1,10 @@
-//! What a text is answered by, as a short text: the binding, or the refusal's cause and its place.
+//! What a text is answered by: the binding, or the refusal's cause and its place.
 
-use crate::printing::put_bound;
-use catalog_core::{SchemaError, read_schema};
-use query_bind::{BindError, bind};
-use query_text::{TextError, read_query};
+ghost use Rattle.std.specs.Prelude.{IfOk};
+ghost use Rattle.catalog_core.specs.LawfulSchemas.{IsSchema};
+
+use binding_text::{put_needed, put_outcome, put_outcomes};
+use catalog_core::{Schema, SchemaError, read_schema};
 use std::alloc::{AllocError, Global};
 
 /// Two fact tables and two dimensions. The key of `customer` is not its first column.
@@ -47,45 +48,35 @@ column = [
 ]
 "#;
 
-fn refusal_of(alloc: Global, error: BindError) -> Result<Vec<u8>, AllocError> {
-    let text = match error {
-        BindError::UnknownTable { at } => format!(in alloc; "unknown table@{at}")?,
-        BindError::UnknownColumn { at } => format!(in alloc; "unknown column@{at}")?,
-        BindError::NotInFrom { at } => format!(in alloc; "not in from@{at}")?,
-        BindError::FactCount { at } => format!(in alloc; "fact count@{at}")?,
-        BindError::JoinShape { at } => format!(in alloc; "join shape@{at}")?,
-        BindError::JoinMissing { at } => format!(in alloc; "join missing@{at}")?,
-        BindError::JoinTwice { at } => format!(in alloc; "join twice@{at}")?,
-        BindError::TypeMismatch { at } => format!(in alloc; "type mismatch@{at}")?,
-        BindError::GroupMismatch { at } => format!(in alloc; "group mismatch@{at}")?,
-        BindError::OrderUnknown { at } => format!(in alloc; "order unknown@{at}")?,
-        BindError::NameTwice { at } => format!(in alloc; "name twice@{at}")?,
-        BindError::Memory => return Err(AllocError),
-    };
-    Vec::from_slice(alloc, text.as_bytes())
+pub fn schema(alloc: Global) -> Result<Schema, SchemaError>
+    ensures { IfOk result IsSchema }
+{
+    read_schema(alloc, SCHEMA)
 }
 
-/// The outcome of a text over the schema.
-pub fn of_text(alloc: Global, text: &[u8]) -> Result<Vec<u8>, AllocError> {
-    if text.len() > 65_536 {
-        return Vec::from_slice(alloc, b"too long");
+/// The outcome of a text over the schema, of one query or of several.
+pub fn of_text(
+    alloc: Global,
+    schema: &Schema,
+    text: &[u8],
+    several: bool,
+) -> Result<Vec<u8>, AllocError>
+    requires { IsSchema schema.now }
+{
+    let mut out = Vec::new(alloc);
+    if several {
+        put_outcomes(alloc, &mut out, text, schema)?;
+    } else {
+        put_outcome(alloc, &mut out, text, schema)?;
     }
-    let schema = match read_schema(alloc, SCHEMA) {
-        Ok(schema) => schema,
-        Err(SchemaError::Memory) => return Err(AllocError),
-        Err(_) => return Vec::from_slice(alloc, b"no schema"),
-    };
-    let query = match read_query(alloc, text) {
-        Ok(query) => query,
-        Err(TextError::Memory) => return Err(AllocError),
-        Err(_) => return Vec::from_slice(alloc, b"no query"),
-    };
-    match bind(alloc, &query, &schema) {
-        Ok(bound) => {
-            let mut out = Vec::new(alloc);
-            put_bound(alloc, &mut out, &bound)?;
-            Ok(out)
-        }
-        Err(error) => refusal_of(alloc, error),
-    }
+    Ok(out)
+}
+
+/// What is to be opened for the query of a text over the schema.
+pub fn needs_in(alloc: Global, schema: &Schema, text: &[u8]) -> Result<Vec<u8>, AllocError>
+    requires { IsSchema schema.now }
+{
+    let mut out = Vec::new(alloc);
+    put_needed(alloc, &mut out, text, schema)?;
+    Ok(out)
 }

@@ -342,6 +342,10 @@ pub const STEPS: &[Case<'static>] = &[
         "name twice@86",
     ),
     (
+        b"select sum(lo_quantity) as a, sum(lo_discount) as a from lineorder group by lo_quantity, lo_quantity",
+        "name twice@89",
+    ),
+    (
         b"select d_datekey, sum(lo_shipmode) from lineorder, date where lo_orderdate = d_datekey group by d_year",
         "group mismatch@7",
     ),
@@ -356,5 +360,44 @@ pub const STEPS: &[Case<'static>] = &[
     (
         b"select lo_quantity from lineorder order by a",
         "group mismatch@7",
+    ),
+];
+
+/// Texts of several queries: the number of queries, and what each of them binds to or where it is refused.
+pub const SEVERAL: &[Case<'static>] = &[
+    (
+        b"select sum(lo_quantity) from lineorder;",
+        "1;0|||||0.1|s0|",
+    ),
+    (
+        b"select sum(lo_quantity) from lineorder; select r_date from returns group by r_date;select r_date from returns",
+        "3;0|||||0.1|s0|;3||||3.0||g0|;group mismatch@90",
+    ),
+    (
+        b"select sum(lo_quantity) from lineorder, date; select sum(lo_shipmode) from lineorder; select sum(lo_quantity) from lineorder where lo_shipmode = 'a;b'",
+        "3;join missing@40;type mismatch@57;0|||0.5 = 'a\\3bb'||0.1|s0|",
+    ),
+    (
+        b"select a from b; select sum(lo_quantity) from lineorder; !",
+        "bad byte@57",
+    ),
+    (b";", "syntax@0"),
+];
+
+/// Texts of queries, and the tables and columns that they read.
+pub const NEEDS: &[Case<'static>] = &[
+    (b"select sum(lo_quantity) from lineorder", "0|0.1"),
+    (
+        b"select sum(lo_quantity - lo_discount), sum(lo_quantity) from lineorder where lo_quantity < 25",
+        "0|0.1,0.2",
+    ),
+    (
+        b"select c_nation, d_year, sum(lo_extendedprice * lo_discount) from customer, lineorder, date where c_custkey = lo_custkey and lo_orderdate = d_datekey and c_region = 'ASIA' group by c_nation, d_year",
+        "0,1,2|0.0,0.2,0.3,0.4,1.0,1.1,2.0,2.1,2.2",
+    ),
+    (b"select r_date from returns group by r_date", "3|3.0"),
+    (
+        b"select sum(lo_quantity) from lineorder, date",
+        "join missing@40",
     ),
 ];
