@@ -46,6 +46,7 @@ bench: $(MORPHQ) $(COLUMN_TOOL)
 	bench/sizes $(PROCESSOR)
 	bench/auto $(PROCESSOR)
 	bench/dictionaries $(PROCESSOR)
+	bench/queries $(PROCESSOR)
 	bench/read_column
 	bench/first_query
 	bench/imports
