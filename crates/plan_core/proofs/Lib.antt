@@ -1,0 +1,2 @@
+mod RangeLaws
+pub mod WorkedExamples
