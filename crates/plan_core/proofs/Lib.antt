@@ -1,2 +1,5 @@
 mod RangeLaws
+mod SizeLemmas
+mod ChoiceLemmas
 pub mod WorkedExamples
+pub mod PlanExamples

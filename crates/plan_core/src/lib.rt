@@ -1,6 +1,14 @@
-//! Plans of bound queries. So far: the values that a test asks for, as a range of numbers or of codes.
+//! Plans of bound queries: the operators that answer a query, and the values that a test asks for.
 #![tactic(auto)]
 
+mod dimensions;
+mod explained;
+mod groups;
+mod planner;
+mod plans;
 mod ranges;
 
+pub use explained::explain;
+pub use groups::plan_of;
+pub use plans::{Input, Operator, Plan, SumPlace};
 pub use ranges::{CodeRange, range_of};
