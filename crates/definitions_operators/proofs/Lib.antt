@@ -2,4 +2,12 @@ pub mod ListLaws
 pub mod PlaceLaws
 pub mod PositionLaws
 pub mod SumLaws
+pub mod MapLaws
+pub mod OperatorLaws
+pub mod GroupWords
+pub mod GroupLaws
+pub mod NumberingLaws
+pub mod OccurrenceLaws
+pub mod GroupPlaceLaws
+pub mod TupleLaws
 pub mod WorkedExamples

@@ -5,7 +5,7 @@ use Rattle.std.specs.List.{range_with_len}
 use Rattle.std.proofs.lemmas.Bool.Decides.{nat_tests}
 use Rattle.std.proofs.lemmas.List.{drop-take, length-take-le, map-id, take-append-drop, take-take, take_more}
 use Rattle.std.proofs.lemmas.Simd.{map-map}
-use Rattle.definitions_operators.specs.Operators.{places, places_where, passing_places, is_within, positions_in}
+use Rattle.definitions_operators.specs.Operators.{places, passing_places, is_within, positions_in}
 use Rattle.definitions_operators.specs.Positions.{IsPositionList}
 use Rattle.definitions_operators.proofs.ListLaws.{filter-none}
 use Rattle.definitions_operators.proofs.PlaceLaws.{places_where-below, places_where-later, IsPositionList-places_where}
