@@ -19,29 +19,29 @@ use Rattle.plan_core.specs.Plans.{Operator, select, union, intersect, project, s
 use Rattle.plan_core.specs.WholePlan.{plan_of}
 use Rattle.plan_core.specs.Explained.{literal_text, operator_text, plan_text}
 
-abbrev at : ℕ → ℕ → ColumnId
+abbrev pub at : ℕ → ℕ → ColumnId
 at table place = record { table = table; column = place }
 
-abbrev tested : ColumnId → Test → Tested
+abbrev pub tested : ColumnId → Test → Tested
 tested id test = record { column = id; test = test }
 
-abbrev to : ColumnId → ColumnId → JoinTo
+abbrev pub to : ColumnId → ColumnId → JoinTo
 to fact_column key = record { fact_column = fact_column; key = key }
 
-abbrev binding_of : List ℕ → List JoinTo → List Tested → List ColumnId → List SumOf → Binding
+abbrev pub binding_of : List ℕ → List JoinTo → List Tested → List ColumnId → List SumOf → Binding
 binding_of dimensions joins tests groups sums = record { fact = 0; dimensions = dimensions; joins = joins; tests = tests; groups = groups; sums = sums; items = []; order = [] }
 
 -- two tables, of which the second is a dimension whose keys may repeat, or differ
-abbrev table_with : Bool → TableDef
+abbrev pub table_with : Bool → TableDef
 table_with repeats = record { name = codes "t"; role = Dimension; key = Some 0; repeats = repeats; separator = 44; header = false; trailing = false; columns = [] }
 
-abbrev schema_with : Bool → Schema
+abbrev pub schema_with : Bool → Schema
 schema_with repeats = record { tables = table_with false ∷ table_with repeats ∷ [] }
 
 -- ---- select sum(lo_extendedprice * lo_discount) from lineorder, date where lo_orderdate = d_datekey and d_year = 1993 and lo_discount between 1 and 3
 -- and lo_quantity < 25, with the columns of lineorder being date, quantity, discount and price
 
-abbrev first : Binding
+abbrev pub first : Binding
 first = binding_of (1 ∷ []) (to (at 0 0) (at 1 0) ∷ [])
     (tested (at 1 1) (equal (of_number 1993)) ∷ tested (at 0 2) (between (of_number 1) (of_number 3)) ∷ tested (at 0 1) (below (of_number 25)) ∷ [])
     [] (operand.Product (at 0 3) (at 0 2) ∷ [])
@@ -90,10 +90,10 @@ keys_that_repeat = refl
 -- and lo_custkey = c_custkey and lo_suppkey = s_suppkey and lo_partkey = p_partkey and c_region = 'AMERICA' and s_region = 'AMERICA'
 -- and (p_mfgr = 'MFGR#1' or p_mfgr = 'MFGR#2') group by d_year, c_nation
 
-abbrev america : Test
+abbrev pub america : Test
 america = equal (of_text (codes "AMERICA"))
 
-abbrev profit : Binding
+abbrev pub profit : Binding
 profit = binding_of (1 ∷ 2 ∷ 3 ∷ 4 ∷ [])
     (to (at 0 0) (at 1 0) ∷ to (at 0 1) (at 2 0) ∷ to (at 0 2) (at 3 0) ∷ to (at 0 3) (at 4 0) ∷ [])
     (tested (at 2 2) america ∷ tested (at 3 1) america ∷ tested (at 4 1) (one_of (of_text (codes "MFGR#1") ∷ of_text (codes "MFGR#2") ∷ [])) ∷ [])

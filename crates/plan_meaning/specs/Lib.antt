@@ -1,0 +1,5 @@
+pub mod StoredData
+pub mod JoinedRows
+pub mod Columns
+pub mod Conditions
+pub mod Law
