@@ -4,9 +4,11 @@
 #![tactic(auto)]
 
 mod laws;
+mod place_tests;
 mod projection;
 mod selection;
 
 pub use laws::one_position_list;
 pub use projection::project;
-pub use selection::select;
+pub use place_tests::{PlaceTest, emit_places};
+pub use selection::{select, select_fly};

@@ -3,10 +3,13 @@
 //! A branch on values in no order is guessed wrong every other time, which costs more than all the rest. So each row of a
 //! block is written into room on the stack, where the next row takes its place unless the value was in the range.
 
-ghost use Rattle.std.specs.Prelude.{◌≡◌, ◌+◌, ◌^◌, ◌<◌, ◌≤◌, ◌++◌, All, map, take, length, slice_index, IfOk, OnOk};
+ghost use Rattle.std.specs.Prelude.{◌≡◌, ℕ, ◌+◌, ◌*◌, ◌^◌, ◌<◌, ◌≤◌, ◌++◌, [], true, All, map, take, length, slice_index, IfOk, IsOk, OnOk, OnErr};
+ghost use Rattle.definitions_operators.specs.Costs.{block_count};
 ghost use Rattle.definitions_operators.specs.Operators.{is_within, positions_in};
 ghost use Rattle.definitions_operators.specs.Positions.{IsPositionList};
 
+use crate::place_tests::{PlaceTest, emit_places};
+use block_core::{BlockSource, Emit, Steps};
 use std::alloc::{AllocError, Global};
 use stream_core::List;
 
@@ -75,6 +78,57 @@ fn mark(values: &[u64], first: u64, low: u64, high: u64, rows: &mut [u64]) -> us
         kept += usize::from(is_within(*value, low, high));
     }
     kept
+}
+
+/// The values from `low` to `high`; none if `high` is less.
+#[derive(Clone, Copy)]
+struct Range {
+    low: u64,
+    high: u64,
+}
+
+impl PlaceTest for Range {
+    ghost use Rattle.definitions_operators.specs.Operators.{is_within};
+
+    ghost passes = { λ range. is_within range.low range.high };
+
+    ghost cost = { λ _. 0 };
+
+    #[tactic(auto, using(definitions_operators::proofs::PositionLaws::positions_in_none))]
+    fn mark<G>(
+        &self,
+        values: &[u64],
+        first: u64,
+        places: &mut [u64],
+        _steps: &mut Steps<G>,
+    ) -> usize {
+        if self.low > self.high {
+            return 0;
+        }
+        mark(values, first, self.low, self.high, places)
+    }
+}
+
+/// Emits the places of the values from `low` to `high`, which rise. It decodes one block at a time and takes one step for each. The lane
+/// width `L` changes nothing.
+pub fn select_fly<const L: usize, S: BlockSource, O: Emit, G>(
+    values: &mut S,
+    low: u64,
+    high: u64,
+    out: &mut O,
+    steps: &mut Steps<G>,
+) -> Result<(), AllocError>
+    requires empty { O.pushed out.old [] }
+    requires in_scope { O.scope (O.frame out.old) (positions_in low high (S.list values.old)) ≡ true }
+    ensures ok { OnOk result (O.pushed out.new (positions_in low high (S.list values.old))) }
+    ensures err { OnErr result ((n : ℕ) × O.pushed out.new (take n (positions_in low high (S.list values.old)))) }
+    ensures sure { O.room (O.frame out.old) (positions_in low high (S.list values.old)) ≡ true → IsOk result }
+    ensures frame { O.frame out.new ≡ O.frame out.old }
+    ensures kept { S.list values.new ≡ S.list values.old }
+    ensures later { steps.old ≤ steps.new }
+    ensures steps { steps.new ≤ steps.old + block_count (S.list values.old) }
+{
+    emit_places(&Range { low, high }, values, out, steps)
 }
 
 /// One comparison does for two, since the difference to `low` wraps around for what is below it.

@@ -1,0 +1,2 @@
+pub mod EmitLaws
+pub mod BlockPlaceLaws
