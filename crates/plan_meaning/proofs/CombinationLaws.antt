@@ -11,18 +11,18 @@ use Rattle.definitions_operators.proofs.MapLaws.{flat_map-each, flat_map-filter}
 use Rattle.query_bind.specs.Binding.{Binding, Tested}
 use Rattle.query_bind.specs.declared.bounds.JoinTo.{JoinTo}
 use Rattle.plan_core.specs.Planner.{conditions_on}
-use Rattle.plan_meaning.specs.StoredData.{Stored, value_at, holds}
-use Rattle.plan_meaning.specs.JoinedRows.{Combination, row_among, row_of, value_in, choices, combinations, is_matched, is_tested, joined_rows}
+use Rattle.plan_meaning.specs.StoredLists.{StoredLists, value_at, holds}
+use Rattle.plan_meaning.specs.JoinedRows.{Combination, row_among, row_of, value_in, one_of_each, combinations, is_matched, is_tested, joined_rows}
 use Rattle.plan_meaning.proofs.Matched.{passes, passing_rows, partners, matches_of, matched, AreApart, IsLawful}
 use Rattle.plan_meaning.proofs.PartnerLaws.{All-flat_map}
 
 -- # All combinations, filtered table by table
 
 -- whether each row has the key that equals the fact row's join column, and all conditions on its table hold at it
-abbrev belongs : Binding → Stored → ℕ → JoinTo → ℕ → Bool
+abbrev belongs : Binding → StoredLists → ℕ → JoinTo → ℕ → Bool
 belongs binding stored fact to row = passes binding stored to.key.table row && (value_at stored to.key row == value_at stored to.fact_column fact)
 
-abbrev belong : Binding → Stored → ℕ → List JoinTo → List ℕ → Bool
+abbrev belong : Binding → StoredLists → ℕ → List JoinTo → List ℕ → Bool
 belong binding stored fact [] rows = true
 belong binding stored fact (to ∷ joins) [] = true
 belong binding stored fact (to ∷ joins) (row ∷ rows) = belongs binding stored fact to row && belong binding stored fact joins rows
@@ -56,21 +56,21 @@ filter-pairs p q pack test rest xs same =
     ∙ map-cond (p x) (pack x) (filter (q x) (rest x))) xs
     ∙ sym (flat_map-filter (λ x. map (pack x) (filter (q x) (rest x))) p xs)
 
-choices-belong : (binding : Binding) (stored : Stored) (fact : ℕ) (joins : List JoinTo)
-    → filter (belong binding stored fact joins) (choices (map (λ to. places (stored.rows to.key.table)) joins)) ≡ choices (map (partners binding stored fact) joins)
+choices-belong : (binding : Binding) (stored : StoredLists) (fact : ℕ) (joins : List JoinTo)
+    → filter (belong binding stored fact joins) (one_of_each (map (λ to. places (stored.rows to.key.table)) joins)) ≡ one_of_each (map (partners binding stored fact) joins)
 choices-belong binding stored fact [] = refl
 choices-belong binding stored fact (to ∷ joins) =
-    let all = choices (map (λ to. places (stored.rows to.key.table)) joins) in
+    let all = one_of_each (map (λ to. places (stored.rows to.key.table)) joins) in
     filter-pairs (belongs binding stored fact to) (λ row. belong binding stored fact joins) (λ row others. row ∷ others) (belong binding stored fact (to ∷ joins)) (λ row. all) (places (stored.rows to.key.table)) (λ row others. refl)
     ∙ ap (λ l. flat_map (λ row. map (λ others. row ∷ others) l) (partners binding stored fact to)) (choices-belong binding stored fact joins)
 
-abbrev belongs_to : Binding → Stored → Combination → Bool
+abbrev belongs_to : Binding → StoredLists → Combination → Bool
 belongs_to binding stored combination = passes binding stored binding.fact combination.fact && belong binding stored combination.fact binding.joins combination.rows
 
-matched-all : (binding : Binding) (stored : Stored) → matched binding stored ≡ filter (belongs_to binding stored) (combinations binding stored)
+matched-all : (binding : Binding) (stored : StoredLists) → matched binding stored ≡ filter (belongs_to binding stored) (combinations binding stored)
 matched-all binding stored =
     let pack : ℕ → List ℕ → Combination = λ fact others. record { fact = fact; rows = others } in
-    let all = choices (map (λ to. places (stored.rows to.key.table)) binding.joins) in
+    let all = one_of_each (map (λ to. places (stored.rows to.key.table)) binding.joins) in
     sym (filter-pairs (passes binding stored binding.fact) (λ fact. belong binding stored fact binding.joins) pack
     (belongs_to binding stored) (λ fact. all) (places (stored.rows binding.fact)) (λ fact others. refl)
     ∙ flat_map-each (λ fact. map (pack fact) (filter (belong binding stored fact binding.joins) all)) (matches_of binding stored binding.joins)
@@ -83,7 +83,7 @@ all-same P p q same [] all = refl
 all-same P p q same (x ∷ xs) all = ap₂ (λ a b. a && b) (same x (All-head P x xs all)) (all-same P p q same xs (All-tail P x xs all))
 
 -- each row is found by its table
-belong-is : (binding : Binding) (stored : Stored) (fact : ℕ) (joins : List JoinTo) (rows : List ℕ) → AreApart joins → length rows ≡ length joins
+belong-is : (binding : Binding) (stored : StoredLists) (fact : ℕ) (joins : List JoinTo) (rows : List ℕ) → AreApart joins → length rows ≡ length joins
     → list_all (λ to. belongs binding stored fact to (row_among to.key.table joins rows)) joins ≡ belong binding stored fact joins rows
 belong-is binding stored fact [] rows apart long = refl
 belong-is binding stored fact (to ∷ joins) [] apart long = absurd (omega arith)
@@ -178,14 +178,14 @@ by_table-is test fact joins (tested ∷ tests) all =
 -- # One combination
 
 -- the conditions on a table hold at a combination's row of it
-passes-is : (binding : Binding) (stored : Stored) (combination : Combination) (table : ℕ)
+passes-is : (binding : Binding) (stored : StoredLists) (combination : Combination) (table : ℕ)
     → passes binding stored table (row_of binding table combination) ≡ list_all (is_tested binding stored combination) (conditions_on table binding.tests)
 passes-is binding stored combination table =
     all-same (λ tested. (tested.column.table == table) ≡ true) (λ tested. holds stored tested (row_of binding table combination)) (is_tested binding stored combination)
     (λ tested here. ap (λ t. holds stored tested (row_of binding t combination)) (sym ((Decides-eqb tested.column.table table).0 here)))
     (conditions_on table binding.tests) (filter_passes (λ tested. tested.column.table == table) binding.tests)
 
-abbrev is_joined_row : Binding → Stored → Combination → Bool
+abbrev is_joined_row : Binding → StoredLists → Combination → Bool
 is_joined_row binding stored combination = list_all (is_matched binding stored combination) binding.joins && list_all (is_tested binding stored combination) binding.tests
 
 abbrev KnownJoin : Binding → JoinTo → Type 0
@@ -199,7 +199,7 @@ move_front true false false = refl
 move_front false b true = refl
 move_front false b false = refl
 
-belongs_to-is : (binding : Binding) (stored : Stored) (combination : Combination) → IsLawful binding → length combination.rows ≡ length binding.joins
+belongs_to-is : (binding : Binding) (stored : StoredLists) (combination : Combination) → IsLawful binding → length combination.rows ≡ length binding.joins
     → belongs_to binding stored combination ≡ is_joined_row binding stored combination
 belongs_to-is binding stored combination lawful long =
     let fact = combination.fact in
@@ -230,26 +230,26 @@ belongs_to-is binding stored combination lawful long =
 
 -- # All combinations
 
-choices-long : (lists : List (List ℕ)) → All (λ rows. length rows ≡ length lists) (choices lists)
+choices-long : (lists : List (List ℕ)) → All (λ rows. length rows ≡ length lists) (one_of_each lists)
 choices-long [] = All-cons (λ rows. length rows ≡ 0) [] [] refl (All-nil (λ rows. length rows ≡ 0))
 choices-long (first ∷ lists) =
-    All-flat_map (λ row. ⊤) (λ rows. length rows ≡ length (first ∷ lists)) (λ row. map (λ others. row ∷ others) (choices lists))
-    (λ row known. All-map (λ rows. length rows ≡ length (first ∷ lists)) (λ others. row ∷ others) (choices lists)
-    (All-weaker (λ rows. length rows ≡ length lists) (λ others. length (row ∷ others) ≡ length (first ∷ lists)) (λ others e. omega arith) (choices lists) (choices-long lists)))
+    All-flat_map (λ row. ⊤) (λ rows. length rows ≡ length (first ∷ lists)) (λ row. map (λ others. row ∷ others) (one_of_each lists))
+    (λ row known. All-map (λ rows. length rows ≡ length (first ∷ lists)) (λ others. row ∷ others) (one_of_each lists)
+    (All-weaker (λ rows. length rows ≡ length lists) (λ others. length (row ∷ others) ≡ length (first ∷ lists)) (λ others e. omega arith) (one_of_each lists) (choices-long lists)))
     first (λ k d within. _)
 
-combinations-long : (binding : Binding) (stored : Stored) → All (λ combination. length combination.rows ≡ length binding.joins) (combinations binding stored)
+combinations-long : (binding : Binding) (stored : StoredLists) → All (λ combination. length combination.rows ≡ length binding.joins) (combinations binding stored)
 combinations-long binding stored =
     let Long : Combination → Type 0 = λ combination. length combination.rows ≡ length binding.joins in
     let tables : List (List ℕ) = map (λ to. places (stored.rows to.key.table)) binding.joins in
-    All-flat_map (λ fact. ⊤) Long (λ fact. map (λ rows. record { fact = fact; rows = rows }) (choices tables))
-    (λ fact known. All-map Long (λ rows. record { fact = fact; rows = rows }) (choices tables)
+    All-flat_map (λ fact. ⊤) Long (λ fact. map (λ rows. record { fact = fact; rows = rows }) (one_of_each tables))
+    (λ fact known. All-map Long (λ rows. record { fact = fact; rows = rows }) (one_of_each tables)
     (All-weaker (λ rows. length rows ≡ length tables) (λ rows. length rows ≡ length binding.joins)
-    (λ rows e. e ∙ length-map binding.joins (λ to. places (stored.rows to.key.table))) (choices tables) (choices-long tables)))
+    (λ rows e. e ∙ length-map binding.joins (λ to. places (stored.rows to.key.table))) (one_of_each tables) (choices-long tables)))
     (places (stored.rows binding.fact)) (λ k d within. _)
 
 -- The joined rows are the matched ones.
-pub joined-matched : (binding : Binding) (stored : Stored) → IsLawful binding → matched binding stored ≡ joined_rows binding stored
+pub joined-matched : (binding : Binding) (stored : StoredLists) → IsLawful binding → matched binding stored ≡ joined_rows binding stored
 joined-matched binding stored lawful =
     matched-all binding stored
     ∙ filter-same (λ combination. length combination.rows ≡ length binding.joins) (belongs_to binding stored) (is_joined_row binding stored)

@@ -14,11 +14,11 @@ use Rattle.plan_core.specs.declared.plans.Input.{Input}
 use Rattle.plan_core.specs.Plans.{Steps, group, refine}
 use Rattle.plan_core.specs.Planner.{Rows, add_column, with_two}
 use Rattle.plan_core.specs.WholePlan.{Grouped, Groups, add_group, add_groups, grouping}
-use Rattle.plan_meaning.specs.StoredData.{Stored}
+use Rattle.plan_meaning.specs.StoredLists.{StoredLists}
 use Rattle.definitions_blocks.specs.Columns.{max_rows}
 use Rattle.plan_meaning.specs.JoinedRows.{value_in}
 use Rattle.plan_meaning.specs.Columns.{both_lists}
-use Rattle.plan_meaning.specs.Conditions.{IsShort}
+use Rattle.plan_meaning.specs.Operands.{IsShortList}
 use Rattle.plan_meaning.proofs.Matched.{AreJoined, HasLengths, Holds, Reads, matched}
 use Rattle.definitions_operators.proofs.PlaceLaws.{length-places, places_where-below}
 use Rattle.plan_meaning.proofs.RunLaws.{GoesOn, GoesOn-refl, GoesOn-then, Holds-later, IsRun, Reads-is, Reads-later, columns_so_far, made_input, made_number, with_two-holds}
@@ -28,7 +28,7 @@ use Rattle.plan_meaning.proofs.ReadLaws.{IsReadTable, add_column-reads}
 use Rattle.definitions_operators.proofs.TupleLaws.{group-ids_below, refine-ids_below}
 
 -- a column in the joined rows
-abbrev pub values_of : Binding → Stored → ColumnId → List ℕ
+abbrev pub values_of : Binding → StoredLists → ColumnId → List ℕ
 values_of binding stored id = map (value_in binding stored id) (matched binding stored)
 
 -- the groups of a further column, within groups where there are some; and those of several
@@ -41,18 +41,18 @@ grouped_by_all before [] = before
 grouped_by_all before (values ∷ rest) = grouped_by_all (Some (grouped_by before values)) rest
 
 -- inputs are lists, one by one
-abbrev pub ReadEach : Stored → Steps → List Input → List (List ℕ) → Type 0
+abbrev pub ReadEach : StoredLists → Steps → List Input → List (List ℕ) → Type 0
 ReadEach stored steps [] [] = ⊤
 ReadEach stored steps (input ∷ inputs) (list ∷ lists) = Reads stored steps input list × ReadEach stored steps inputs lists
 ReadEach stored steps inputs lists = ⊥
 
-pub ReadEach-later : (count : ℕ) (stored : Stored) (a b : Steps) (inputs : List Input) (lists : List (List ℕ)) → GoesOn count stored a b → ReadEach stored a inputs lists → ReadEach stored b inputs lists
+pub ReadEach-later : (count : ℕ) (stored : StoredLists) (a b : Steps) (inputs : List Input) (lists : List (List ℕ)) → GoesOn count stored a b → ReadEach stored a inputs lists → ReadEach stored b inputs lists
 ReadEach-later count stored a b [] [] on all = _
 ReadEach-later count stored a b [] (list ∷ lists) on all = all
 ReadEach-later count stored a b (input ∷ inputs) [] on all = all
 ReadEach-later count stored a b (input ∷ inputs) (list ∷ lists) on all = (Reads-later count stored a b input list on all.0, ReadEach-later count stored a b inputs lists on all.1)
 
-pub ReadEach-push : (stored : Stored) (steps : Steps) (inputs : List Input) (lists : List (List ℕ)) (input : Input) (list : List ℕ)
+pub ReadEach-push : (stored : StoredLists) (steps : Steps) (inputs : List Input) (lists : List (List ℕ)) (input : Input) (list : List ℕ)
     → ReadEach stored steps inputs lists → Reads stored steps input list → ReadEach stored steps (inputs ++ input ∷ []) (lists ++ list ∷ [])
 ReadEach-push stored steps [] [] input list all one = (one, _)
 ReadEach-push stored steps [] (first ∷ lists) input list all one = absurd all
@@ -60,7 +60,7 @@ ReadEach-push stored steps (first ∷ inputs) [] input list all one = absurd all
 ReadEach-push stored steps (first ∷ inputs) (other ∷ lists) input list all one = (all.0, ReadEach-push stored steps inputs lists input list all.1 one)
 
 -- the last Group or Refine holds the groups of n rows
-pub record HoldsGroups (stored : Stored) (steps : Steps) (n : ℕ) (last : Grouped) (groups : Grouping) : Type 0 where
+pub record HoldsGroups (stored : StoredLists) (steps : Steps) (n : ℕ) (last : Grouped) (groups : Grouping) : Type 0 where
   pub ids : Holds stored steps last.ids groups.ids
   pub extents : Holds stored steps last.extents groups.extents
   pub count : length groups.ids ≡ n
@@ -68,12 +68,12 @@ pub record HoldsGroups (stored : Stored) (steps : Steps) (n : ℕ) (last : Group
   pub next : last.extents ≡ last.ids + 1
   pub numbers : All (λ id. id < length groups.extents) groups.ids
 
-abbrev pub AreGroups : Stored → Steps → ℕ → Option Grouped → Option Grouping → Type 0
+abbrev pub AreGroups : StoredLists → Steps → ℕ → Option Grouped → Option Grouping → Type 0
 AreGroups stored steps n None None = ⊤
 AreGroups stored steps n (Some last) (Some groups) = HoldsGroups stored steps n last groups
 AreGroups stored steps n last groups = ⊥
 
-HoldsGroups-later : (count : ℕ) (stored : Stored) (a b : Steps) (n : ℕ) (last : Grouped) (groups : Grouping) → GoesOn count stored a b → HoldsGroups stored a n last groups → HoldsGroups stored b n last groups
+HoldsGroups-later : (count : ℕ) (stored : StoredLists) (a b : Steps) (n : ℕ) (last : Grouped) (groups : Grouping) → GoesOn count stored a b → HoldsGroups stored a n last groups → HoldsGroups stored b n last groups
 HoldsGroups-later count stored a b n last groups on is = record {
   ids = Holds-later count stored a b last.ids groups.ids on is.ids;
   extents = Holds-later count stored a b last.extents groups.extents on is.extents;
@@ -83,7 +83,7 @@ HoldsGroups-later count stored a b n last groups on is = record {
   numbers = is.numbers;
 }
 
-pub AreGroups-later : (count : ℕ) (stored : Stored) (a b : Steps) (n : ℕ) (last : Option Grouped) (groups : Option Grouping) → GoesOn count stored a b → AreGroups stored a n last groups → AreGroups stored b n last groups
+pub AreGroups-later : (count : ℕ) (stored : StoredLists) (a b : Steps) (n : ℕ) (last : Option Grouped) (groups : Option Grouping) → GoesOn count stored a b → AreGroups stored a n last groups → AreGroups stored b n last groups
 AreGroups-later count stored a b n None None on is = _
 AreGroups-later count stored a b n None (Some groups) on is = is
 AreGroups-later count stored a b n (Some last) None on is = is
@@ -102,7 +102,7 @@ first_places-below : (like : ℕ → ℕ → Bool) (n : ℕ) → All (λ place. 
 first_places-below like n = places_where-below (λ place. not (list_any (λ earlier. like earlier place) (places place))) n
 
 -- one Group or Refine more
-add_grouping-holds : (count : ℕ) (stored : Stored) → HasLengths stored → (steps : Steps) (last : Option Grouped) (groups : Option Grouping) (input : Input) (values : List ℕ)
+add_grouping-holds : (count : ℕ) (stored : StoredLists) → HasLengths stored → (steps : Steps) (last : Option Grouped) (groups : Option Grouping) (input : Input) (values : List ℕ)
     → IsRun count stored steps → AreGroups stored steps (length values) last groups → Reads stored steps input values → length values ≡ count
     → GoesOn count stored steps (with_two steps (grouping last input))
     × HoldsGroups stored (with_two steps (grouping last input)) (length values) (record { ids = steps.columns + 1; extents = steps.columns + 2 }) (grouped_by groups values)
@@ -112,7 +112,7 @@ add_grouping-holds count stored given steps None None input values run is reads 
     let made = with_two-holds count stored steps (group input) (group_numbers (one_value values) n) (first_places (one_value values) n) run
     (ap (λ vs. both_lists (by_groups.group vs)) input_is) (made_input stored steps input values reads, refl, refl) (ap length input_is ∙ many)
     (λ fits short.
-    let long : n ≤ max_rows = subst IsShort input_is (input-short stored given (columns_so_far stored steps) input short) in
+    let long : n ≤ max_rows = subst IsShortList input_is (input-short stored given (columns_so_far stored steps) input short) in
     let few : length (first_places (one_value values) n) ≤ n = first_places-few (one_value values) n in
     (subst (λ m. m ≤ max_rows) (sym (length-group_numbers (one_value values) n)) long, omega arith)) in
     (made.0, record { ids = made.1; extents = made.2; count = length-group_numbers (one_value values) n; below = first_places-below (one_value values) n; next = omega arith; numbers = group-ids_below values })
@@ -127,7 +127,7 @@ add_grouping-holds count stored given steps (Some last) (Some groups) input valu
     (made_number stored steps last.ids before is.ids, made_input stored steps input values reads, refl, refl)
     (ap length input_is ∙ many, ap length is.ids.is ∙ is.count ∙ many)
     (λ fits short.
-    let long : n ≤ max_rows = subst IsShort input_is (input-short stored given (columns_so_far stored steps) input short) in
+    let long : n ≤ max_rows = subst IsShortList input_is (input-short stored given (columns_so_far stored steps) input short) in
     let few : length (first_places (one_pair before values) n) ≤ n = first_places-few (one_pair before values) n in
     (subst (λ m. m ≤ max_rows) (sym (length-group_numbers (one_pair before values) n)) long, omega arith)) in
     (made.0, record { ids = made.1; extents = made.2; count = length-group_numbers (one_pair before values) n; below = first_places-below (one_pair before values) n; next = omega arith; numbers = refine-ids_below before values is.count })
@@ -136,7 +136,7 @@ abbrev pub IsReadColumn : Binding → Schema → ColumnId → Type 0
 IsReadColumn binding schema id = IsReadTable binding schema id.table
 
 -- Step 5: after all GROUP BY columns.
-pub add_groups-are : (binding : Binding) (schema : Schema) (count : ℕ) (stored : Stored) → HasLengths stored → length (matched binding stored) ≡ count → (rows : Rows) (groups : Groups) (ids : List ColumnId) (before : Option Grouping) (lists : List (List ℕ))
+pub add_groups-are : (binding : Binding) (schema : Schema) (count : ℕ) (stored : StoredLists) → HasLengths stored → length (matched binding stored) ≡ count → (rows : Rows) (groups : Groups) (ids : List ColumnId) (before : Option Grouping) (lists : List (List ℕ))
     → IsRun count stored groups.steps → GoesOn count stored rows.steps groups.steps → AreJoined binding schema stored rows → All (IsReadColumn binding schema) ids
     → AreGroups stored groups.steps (length (matched binding stored)) groups.last before → ReadEach stored groups.steps groups.values lists
     → GoesOn count stored groups.steps (add_groups binding rows groups ids).steps

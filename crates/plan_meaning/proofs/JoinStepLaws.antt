@@ -11,12 +11,11 @@ use Rattle.query_bind.specs.Binding.{Binding}
 use Rattle.query_bind.specs.declared.bounds.JoinTo.{JoinTo}
 use Rattle.plan_core.specs.Plans.{Steps, join, project, semi_join}
 use Rattle.plan_core.specs.Planner.{Dimension, Listed, RowList, Rows, add_dimensions, add_join, add_list, add_places, add_row_lists, add_semi_joins, add_values, combine, make_one, with_one, with_two}
-use Rattle.plan_meaning.specs.StoredData.{Stored, value_at}
+use Rattle.plan_meaning.specs.StoredLists.{StoredLists, value_at}
 use Rattle.definitions_blocks.specs.Columns.{max_rows}
-use Rattle.plan_meaning.specs.Columns.{column_of, input_of}
-use Rattle.plan_meaning.specs.Conditions.{IsShort}
-use Rattle.plan_meaning.specs.Law.{HasDistinct}
-use Rattle.plan_meaning.proofs.Matched.{HasChoices, HasLengths, Holds, Lists, Reads, partners, passing_rows}
+use Rattle.plan_meaning.specs.Columns.{made_column, input_of}
+use Rattle.plan_meaning.specs.Operands.{IsShortList}
+use Rattle.plan_meaning.proofs.Matched.{HasApart, HasChoices, HasLengths, Holds, Lists, Reads, partners, passing_rows}
 use Rattle.definitions_operators.proofs.MapLaws.{flat_map-each, kept, map-flat_map, map-map}
 use Rattle.definitions_operators.proofs.OperatorLaws.{join-reads}
 use Rattle.plan_meaning.proofs.JoinedLaws.{Found, extended, start, with_row}
@@ -26,27 +25,27 @@ use Rattle.plan_meaning.proofs.ListStepLaws.{IsPositions, IsPositions-filter, ad
 use Rattle.plan_meaning.proofs.FitLaws.{Fits, Fits-places, Fits-row_lists, Fits-two, Fits-values, input-short, length-flat_map-alone, small_enough}
 
 -- the keys of a dimension's passing rows
-abbrev pub passing_keys : Binding → Stored → JoinTo → List ℕ
+abbrev pub passing_keys : Binding → StoredLists → JoinTo → List ℕ
 passing_keys binding stored to = map (value_at stored to.key) (passing_rows binding stored to.key.table)
 
 -- a dimension's list is its passing rows, and its keys are theirs
-pub record IsDimension (binding : Binding) (stored : Stored) (steps : Steps) (dimension : Dimension) : Type 0 where
+pub record IsDimension (binding : Binding) (stored : StoredLists) (steps : Steps) (dimension : Dimension) : Type 0 where
   pub list : Lists stored steps dimension.list (stored.rows dimension.to.key.table) (passing_rows binding stored dimension.to.key.table)
   pub keys : Reads stored steps dimension.keys (passing_keys binding stored dimension.to)
 
-IsDimension-later : (binding : Binding) (count : ℕ) (stored : Stored) (a b : Steps) (dimension : Dimension) → GoesOn count stored a b → IsDimension binding stored a dimension → IsDimension binding stored b dimension
+IsDimension-later : (binding : Binding) (count : ℕ) (stored : StoredLists) (a b : Steps) (dimension : Dimension) → GoesOn count stored a b → IsDimension binding stored a dimension → IsDimension binding stored b dimension
 IsDimension-later binding count stored a b dimension on is = record {
   list = Lists-later count stored a b dimension.list (stored.rows dimension.to.key.table) (passing_rows binding stored dimension.to.key.table) on is.list;
   keys = Reads-later count stored a b dimension.keys (passing_keys binding stored dimension.to) on is.keys;
 }
 
-pub AreDimensions-later : (binding : Binding) (count : ℕ) (stored : Stored) (a b : Steps) (dimensions : List Dimension)
+pub AreDimensions-later : (binding : Binding) (count : ℕ) (stored : StoredLists) (a b : Steps) (dimensions : List Dimension)
     → GoesOn count stored a b → All (IsDimension binding stored a) dimensions → All (IsDimension binding stored b) dimensions
 AreDimensions-later binding count stored a b dimensions on all =
     All-weaker (IsDimension binding stored a) (IsDimension binding stored b) (λ dimension is. IsDimension-later binding count stored a b dimension on is) dimensions all
 
 -- Step 1.
-pub add_dimensions-are : (binding : Binding) (count : ℕ) (stored : Stored) → HasLengths stored → All HasChoices binding.tests → (steps : Steps) (joins : List JoinTo) (done : List Dimension)
+pub add_dimensions-are : (binding : Binding) (count : ℕ) (stored : StoredLists) → HasLengths stored → All HasChoices binding.tests → (steps : Steps) (joins : List JoinTo) (done : List Dimension)
     → IsRun count stored steps → All (IsDimension binding stored steps) done
     → GoesOn count stored steps (add_dimensions steps binding joins done).steps
     × All (IsDimension binding stored (add_dimensions steps binding joins done).steps) (add_dimensions steps binding joins done).dimensions
@@ -71,14 +70,14 @@ add_dimensions-are binding count stored given chosen steps (to ∷ joins) done r
     )
 
 -- whether a fact row's join column is among a dimension's keys
-abbrev pub has_key : Binding → Stored → JoinTo → ℕ → Bool
+abbrev pub has_key : Binding → StoredLists → JoinTo → ℕ → Bool
 has_key binding stored to fact = has (passing_keys binding stored to) (value_at stored to.fact_column fact)
 
 abbrev pub IsFrom : Binding → Dimension → Type 0
 IsFrom binding dimension = dimension.to.fact_column.table ≡ binding.fact
 
 -- Step 3: the fact list keeps the rows whose join columns are among the keys.
-pub add_semi_joins-lists : (binding : Binding) (count : ℕ) (stored : Stored) → HasLengths stored → (listed : Listed) (dimensions : List Dimension) (list : List ℕ)
+pub add_semi_joins-lists : (binding : Binding) (count : ℕ) (stored : StoredLists) → HasLengths stored → (listed : Listed) (dimensions : List Dimension) (list : List ℕ)
     → IsRun count stored listed.steps → All (IsDimension binding stored listed.steps) dimensions → All (IsFrom binding) dimensions
     → IsPositions (stored.rows binding.fact) list → Lists stored listed.steps listed.list (stored.rows binding.fact) list
     → GoesOn count stored listed.steps (add_semi_joins listed dimensions).steps
@@ -107,10 +106,10 @@ add_semi_joins-lists binding count stored given listed (dimension ∷ dimensions
     (GoesOn-then count stored listed.steps next.steps all.steps on rest.0, rest.1)
 
 -- each row list is a function of its table
-abbrev pub AreRowLists : Stored → Steps → (ℕ → List ℕ) → List RowList → Type 0
+abbrev pub AreRowLists : StoredLists → Steps → (ℕ → List ℕ) → List RowList → Type 0
 AreRowLists stored steps list_of lists = All (λ rows. Holds stored steps rows.number (list_of rows.table)) lists
 
-AreRowLists-later : (count : ℕ) (stored : Stored) (a b : Steps) (list_of : ℕ → List ℕ) (lists : List RowList) → GoesOn count stored a b → AreRowLists stored a list_of lists → AreRowLists stored b list_of lists
+AreRowLists-later : (count : ℕ) (stored : StoredLists) (a b : Steps) (list_of : ℕ → List ℕ) (lists : List RowList) → GoesOn count stored a b → AreRowLists stored a list_of lists → AreRowLists stored b list_of lists
 AreRowLists-later count stored a b list_of lists on all =
     All-weaker (λ rows. Holds stored a rows.number (list_of rows.table)) (λ rows. Holds stored b rows.number (list_of rows.table))
     (λ rows holds. Holds-later count stored a b rows.number (list_of rows.table) on holds) lists all
@@ -119,7 +118,7 @@ abbrev pub tables_of : List RowList → List ℕ
 tables_of lists = map (λ rows. rows.table) lists
 
 -- the earlier row lists at the places
-add_row_lists-are : (count : ℕ) (stored : Stored) (steps : Steps) (done todo : List RowList) (left n : ℕ) (at : List ℕ) (list_of : ℕ → List ℕ)
+add_row_lists-are : (count : ℕ) (stored : StoredLists) (steps : Steps) (done todo : List RowList) (left n : ℕ) (at : List ℕ) (list_of : ℕ → List ℕ)
     → IsRun count stored steps → Holds stored steps left at → All (λ place. place < n) at → ((table : ℕ) → length (list_of table) ≡ n)
     → AreRowLists stored steps list_of todo → AreRowLists stored steps (λ table. lists.values_at (list_of table) at) done
     → GoesOn count stored steps (add_row_lists steps done todo left).steps
@@ -138,7 +137,7 @@ add_row_lists-are count stored steps done (rows ∷ todo) left n at list_of run 
     let first = with_one-holds count stored steps (project (input.Made rows.number) left) (projected rows.table) run
     (ap₂ (λ a b. lists.values_at a b ∷ []) is.is left_is.is)
     (made_number stored steps rows.number _ is, made_number stored steps left _ left_is, refl)
-    (subst (λ l. All (λ place. place < length l) (column_of (columns_so_far stored steps) left)) (sym is.is)
+    (subst (λ l. All (λ place. place < length l) (made_column (columns_so_far stored steps) left)) (sym is.is)
     (subst (All (λ place. place < length list)) (sym left_is.is) (subst (λ m. All (λ place. place < m) at) (sym (long rows.table)) within)))
     (λ short. subst (λ m. m ≤ max_rows) (ap length left_is.is ∙ sym (length-map at (slice_index list))) (column-short (columns_so_far stored steps) left short)) in
     let New : RowList → Type 0 = λ rows. Holds stored one rows.number (projected rows.table) in
@@ -151,7 +150,7 @@ add_row_lists-are count stored steps done (rows ∷ todo) left n at list_of run 
     )
 
 -- the rows found so far: the fact list and the row lists, side by side
-pub record AreFound (binding : Binding) (stored : Stored) (rows : Rows) (found : List Found) : Type 0 where
+pub record AreFound (binding : Binding) (stored : StoredLists) (rows : Rows) (found : List Found) : Type 0 where
   pub facts : Lists stored rows.steps rows.facts (stored.rows binding.fact) (map (λ each. each.fact) found)
   pub below : All (λ each. each.fact < stored.rows binding.fact) found
   pub lists : AreRowLists stored rows.steps (λ table. map (λ each. each.row table) found) rows.lists
@@ -161,7 +160,7 @@ All-unmap P f [] all = All-nil (λ x. P (f x))
 All-unmap P f (x ∷ xs) all = All-cons (λ x. P (f x)) x xs (All-head P (f x) (map f xs) all) (All-unmap P f xs (All-tail P (f x) (map f xs) all))
 
 -- what a Join gives, read at each item with each of its partners
-joined-reads : (binding : Binding) (stored : Stored) (to : JoinTo) (found : List Found) (u : Found → ℕ) (read : ℕ × ℕ → ℕ)
+joined-reads : (binding : Binding) (stored : StoredLists) (to : JoinTo) (found : List Found) (u : Found → ℕ) (read : ℕ × ℕ → ℕ)
     → ((i j : ℕ) → i < length found → j < length (passing_rows binding stored to.key.table)
     → read (i, j) ≡ u (with_row to (get_or found i (start 0)) (slice_index (passing_rows binding stored to.key.table) j)))
     → map read (lists.join (map (λ each. value_at stored to.fact_column each.fact) found) (passing_keys binding stored to))
@@ -178,13 +177,13 @@ not_too_large : (n : ℕ) → nat_lt max_rows n ≡ false → n ≤ max_rows
 not_too_large n fits = grind (arith, nat_tests)
 
 -- Step 4, for one dimension whose table isn't among those before.
-pub add_join-found : (binding : Binding) (count : ℕ) (stored : Stored) → HasLengths stored → (rows : Rows) (dimension : Dimension) (found : List Found)
+pub add_join-found : (binding : Binding) (count : ℕ) (stored : StoredLists) → HasLengths stored → (rows : Rows) (dimension : Dimension) (found : List Found)
     → IsRun count stored rows.steps → AreFound binding stored rows found → IsDimension binding stored rows.steps dimension → IsFrom binding dimension
     → All (λ table. (dimension.to.key.table == table) ≡ false) (tables_of rows.lists)
     → GoesOn count stored rows.steps (add_join rows dimension).steps
     × AreFound binding stored (add_join rows dimension) (extended (λ to fact. partners binding stored fact to) dimension.to found)
     × (tables_of (add_join rows dimension).lists ≡ tables_of rows.lists ++ dimension.to.key.table ∷ [])
-    × (HasDistinct stored dimension.to.key → Fits stored rows.steps → Fits stored (add_join rows dimension).steps)
+    × (HasApart stored dimension.to.key → Fits stored rows.steps → Fits stored (add_join rows dimension).steps)
 add_join-found binding count stored given rows dimension found run are is from apart =
     let to = dimension.to in
     let n = stored.rows binding.fact in
@@ -289,7 +288,7 @@ add_join-found binding count stored given rows dimension found run are is from a
           let fewer : length more ≤ length found = length-flat_map-alone (λ each. map (with_row to each) (partners binding stored each.fact to)) alone found in
           let same : length pairs ≡ length more =
           sym (length-map lefts (slice_index (facts_of found)) ∙ length-map pairs (λ pair. pair.0)) ∙ ap length facts_is ∙ length-map more (λ each. each.fact) in
-          let long : length values ≤ max_rows = subst IsShort probe_is (input-short stored given (columns_so_far stored probe.steps) probe.input (probed.0.run.short fits_probe)) in
+          let long : length values ≤ max_rows = subst IsShortList probe_is (input-short stored given (columns_so_far stored probe.steps) probe.input (probed.0.run.short fits_probe)) in
           let values_are : length values ≡ length found = length-map found (λ each. value_at stored to.fact_column each.fact) in
           let small : length pairs ≤ max_rows = omega arith in
           Fits-places stored earlier.steps dimension.list (left + 1)

@@ -10,8 +10,8 @@ use Rattle.std.proofs.lemmas.List.Concat.{flat_map_single}
 use Rattle.std.proofs.lemmas.List.Folds.{flat_map-map}
 use Rattle.query_bind.specs.Binding.{Binding}
 use Rattle.query_bind.specs.declared.bounds.JoinTo.{JoinTo}
-use Rattle.plan_meaning.specs.StoredData.{Stored}
-use Rattle.plan_meaning.specs.JoinedRows.{Combination, choices, row_among}
+use Rattle.plan_meaning.specs.StoredLists.{StoredLists}
+use Rattle.plan_meaning.specs.JoinedRows.{Combination, one_of_each, row_among}
 use Rattle.plan_meaning.proofs.Matched.{AreApart, matched, matches_of, partners, passing_rows}
 use Rattle.definitions_operators.proofs.MapLaws.{flat_map-each, flat_map-filter, flat_map-flat_map, flat_map-none, map-flat_map, map-map, map-same}
 
@@ -75,14 +75,14 @@ with_rows-row table (to ∷ joins) (row ∷ rows) found apart none =
           ∙ ap (λ b. cond b row (row_among table joins rows)) (sym t)
     ]
 
--- one dimension after the other gives all choices
-pub found_from-choices : (partners : JoinTo → ℕ → List ℕ) (joins : List JoinTo) (found : List Found) →
-    found_from partners joins found ≡ flat_map (λ each. map (λ rows. with_rows joins rows each) (choices (map (λ to. partners to each.fact) joins))) found
+-- one dimension after the other gives all one_of_each
+pub found_from-one_of_each : (partners : JoinTo → ℕ → List ℕ) (joins : List JoinTo) (found : List Found) →
+    found_from partners joins found ≡ flat_map (λ each. map (λ rows. with_rows joins rows each) (one_of_each (map (λ to. partners to each.fact) joins))) found
 unfolding found_from with_rows
-found_from-choices partners [] found = sym (flat_map_single (λ each. each) found ∙ map-id found)
-found_from-choices partners (to ∷ joins) found =
-    let all : List JoinTo → Found → List (List ℕ) = λ joins each. choices (map (λ to. partners to each.fact) joins) in
-    found_from-choices partners joins (extended partners to found)
+found_from-one_of_each partners [] found = sym (flat_map_single (λ each. each) found ∙ map-id found)
+found_from-one_of_each partners (to ∷ joins) found =
+    let all : List JoinTo → Found → List (List ℕ) = λ joins each. one_of_each (map (λ to. partners to each.fact) joins) in
+    found_from-one_of_each partners joins (extended partners to found)
     ∙ flat_map-flat_map (λ each. map (λ rows. with_rows joins rows each) (all joins each)) (λ each. map (with_row to each) (partners to each.fact)) found
     ∙ flat_map-each (λ each. flat_map (λ next. map (λ rows. with_rows joins rows next) (all joins next)) (map (with_row to each) (partners to each.fact)))
     (λ each. map (λ rows. with_rows (to ∷ joins) rows each) (all (to ∷ joins) each))
@@ -147,21 +147,21 @@ and_cond : {A : Type 0} (a b : Bool) (x y : A) → cond a (cond b x y) y ≡ con
 and_cond true b x y = refl
 and_cond false b x y = refl
 
--- All choices, cut down: the choices of the joined dimensions, where each other one has its only row.
+-- All one_of_each, cut down: the one_of_each of the joined dimensions, where each other one has its only row.
 pub choices-cut : (wanted : JoinTo → Bool) (rows_of : JoinTo → List ℕ) (joins : List JoinTo)
     → All (λ to. wanted to ≡ false → IsAlone (rows_of to)) joins
-    → map (cut wanted joins) (choices (map rows_of joins))
-    ≡ cond (list_all (λ to. is_some_row (rows_of to)) (filter (λ to. not (wanted to)) joins)) (choices (map rows_of (filter wanted joins))) []
+    → map (cut wanted joins) (one_of_each (map rows_of joins))
+    ≡ cond (list_all (λ to. is_some_row (rows_of to)) (filter (λ to. not (wanted to)) joins)) (one_of_each (map rows_of (filter wanted joins))) []
 unfolding cut
 choices-cut wanted rows_of [] alone = refl
 choices-cut wanted rows_of (to ∷ joins) alone =
     let P : JoinTo → Type 0 = λ to. wanted to ≡ false → IsAlone (rows_of to) in
-    let all = choices (map rows_of joins) in
+    let all = one_of_each (map rows_of joins) in
     let some = list_all (λ to. is_some_row (rows_of to)) (filter (λ to. not (wanted to)) joins) in
-    let few = choices (map rows_of (filter wanted joins)) in
+    let few = one_of_each (map rows_of (filter wanted joins)) in
     let rest : map (cut wanted joins) all ≡ cond some few [] = choices-cut wanted rows_of joins (All-tail P to joins alone) in
     let here : wanted to ≡ false → IsAlone (rows_of to) = All-head P to joins alone in
-    let pulled : map (cut wanted (to ∷ joins)) (choices (map rows_of (to ∷ joins)))
+    let pulled : map (cut wanted (to ∷ joins)) (one_of_each (map rows_of (to ∷ joins)))
     ≡ flat_map (λ row. map (λ others. cond (wanted to) (row ∷ cut wanted joins others) (cut wanted joins others)) all) (rows_of to) =
     map-flat_map (cut wanted (to ∷ joins)) (λ row. map (λ others. row ∷ others) all) (rows_of to)
     ∙ flat_map-each (λ row. map (cut wanted (to ∷ joins)) (map (λ others. row ∷ others) all))
@@ -171,7 +171,7 @@ choices-cut wanted rows_of (to ∷ joins) alone =
     ∙ (elim (wanted to) as (λ b. (b ≡ false → IsAlone (rows_of to))
     → flat_map (λ row. map (λ others. cond b (row ∷ cut wanted joins others) (cut wanted joins others)) all) (rows_of to)
     ≡ cond (list_all (λ to. is_some_row (rows_of to)) (cond (not b) (to ∷ filter (λ to. not (wanted to)) joins) (filter (λ to. not (wanted to)) joins)))
-    (choices (map rows_of (cond b (to ∷ filter wanted joins) (filter wanted joins)))) []) [
+    (one_of_each (map rows_of (cond b (to ∷ filter wanted joins) (filter wanted joins)))) []) [
       | true ↦ λ h.
           flat_map-each (λ row. map (λ others. row ∷ cut wanted joins others) all) (λ row. map (λ others. row ∷ others) (cond some few []))
           (λ row. sym (map-map (λ others. row ∷ others) (cut wanted joins) all) ∙ ap (map (λ others. row ∷ others)) rest) (rows_of to)
@@ -185,11 +185,11 @@ choices-cut wanted rows_of (to ∷ joins) alone =
           ∙ and_cond (is_some_row (rows_of to)) some few []
     ]) here
 
-abbrev pub have_rows : Binding → Stored → (JoinTo → Bool) → ℕ → Bool
+abbrev pub have_rows : Binding → StoredLists → (JoinTo → Bool) → ℕ → Bool
 have_rows binding stored wanted fact = list_all (λ to. is_some_row (partners binding stored fact to)) (filter (λ to. not (wanted to)) binding.joins)
 
 -- The rows found from the fact rows that have a row in each dimension not wanted, read at a wanted table, are the joined rows read there.
-pub joined-found : (binding : Binding) (stored : Stored) (wanted : JoinTo → Bool) (u : Found → ℕ) (w : Combination → ℕ)
+pub joined-found : (binding : Binding) (stored : StoredLists) (wanted : JoinTo → Bool) (u : Found → ℕ) (w : Combination → ℕ)
     → ((fact : ℕ) (rows : List ℕ) → u (with_rows (filter wanted binding.joins) (cut wanted binding.joins rows) (start fact)) ≡ w (record { fact = fact; rows = rows }))
     → ((fact : ℕ) → All (λ to. wanted to ≡ false → IsAlone (partners binding stored fact to)) binding.joins)
     → map u (found_from (λ to fact. partners binding stored fact to) (filter wanted binding.joins) (map start (filter (have_rows binding stored wanted) (passing_rows binding stored binding.fact))))
@@ -198,7 +198,7 @@ joined-found binding stored wanted u w same alone =
     let joins = binding.joins in
     let js = filter wanted joins in
     let facts = passing_rows binding stored binding.fact in
-    let all : List JoinTo → ℕ → List (List ℕ) = λ joins fact. choices (map (partners binding stored fact) joins) in
+    let all : List JoinTo → ℕ → List (List ℕ) = λ joins fact. one_of_each (map (partners binding stored fact) joins) in
     let found : ℕ → List Found = λ fact. map (λ rows. with_rows js rows (start fact)) (all js fact) in
     let read : ℕ → List ℕ → ℕ = λ fact rows. u (with_rows js rows (start fact)) in
     let one : (fact : ℕ) → cond (have_rows binding stored wanted fact) (map u (found fact)) [] ≡ map w (matches_of binding stored joins fact) =
@@ -211,8 +211,8 @@ joined-found binding stored wanted u w same alone =
       | true ↦ sym (map-map u (λ rows. with_rows js rows (start fact)) (all js fact))
       | false ↦ refl
     ])) in
-    ap (map u) (found_from-choices (λ to fact. partners binding stored fact to) js (map start (filter (have_rows binding stored wanted) facts))
-    ∙ flat_map-map (λ each. map (λ rows. with_rows js rows each) (choices (map (λ to. partners binding stored each.fact to) js))) start (filter (have_rows binding stored wanted) facts))
+    ap (map u) (found_from-one_of_each (λ to fact. partners binding stored fact to) js (map start (filter (have_rows binding stored wanted) facts))
+    ∙ flat_map-map (λ each. map (λ rows. with_rows js rows each) (one_of_each (map (λ to. partners binding stored each.fact to) js))) start (filter (have_rows binding stored wanted) facts))
     ∙ map-flat_map u found (filter (have_rows binding stored wanted) facts)
     ∙ flat_map-filter (λ fact. map u (found fact)) (have_rows binding stored wanted) facts
     ∙ flat_map-each (λ fact. cond (have_rows binding stored wanted fact) (map u (found fact)) []) (λ fact. map w (matches_of binding stored joins fact)) one facts

@@ -15,6 +15,9 @@ pub mod CombinationLaws
 pub mod NeededLaws
 pub mod MeaningLaws
 pub mod TransferLaws
+pub mod StepLaws
 pub mod OrderLaws
+pub mod NumberLaws
+pub mod LabelLaws
 pub mod LawProofs
 pub mod WorkedExamples

@@ -17,10 +17,10 @@ use Rattle.catalog_core.specs.declared.columns.ColumnId.{ColumnId}
 use Rattle.query_bind.specs.Binding.{Binding, Tested}
 use Rattle.plan_core.specs.Plans.{Steps, intersect, project, select, union}
 use Rattle.plan_core.specs.Planner.{Listed, Made, add_condition, add_conditions, add_list, add_places, add_selects, add_unions, add_values, choices_of, combine, conditions_on, with_one}
-use Rattle.plan_meaning.specs.StoredData.{Stored, accepts, holds, is_met, value_at}
+use Rattle.plan_meaning.specs.StoredLists.{StoredLists, accepts, holds, is_met, value_at}
 use Rattle.definitions_blocks.specs.Columns.{max_rows}
-use Rattle.plan_meaning.specs.Columns.{column, column_of}
-use Rattle.plan_meaning.specs.Conditions.{IsShort}
+use Rattle.plan_meaning.specs.Columns.{column, made_column}
+use Rattle.plan_meaning.specs.Operands.{IsShortList}
 use Rattle.plan_meaning.proofs.Matched.{HasChoices, HasLengths, Holds, Lists, Reads, passes, passing_rows}
 use Rattle.definitions_operators.proofs.PlaceLaws.{length-places, places-below, places-rise, places_where-rise, places_where-same}
 use Rattle.definitions_operators.proofs.MapLaws.{kept, kept-filter}
@@ -46,28 +46,28 @@ length-filter-le test xs =
     let both : length (filter test xs) + length (filter (λ x. not (test x)) xs) ≡ length xs = length-filter_both test (λ x. not (test x)) (λ x. refl) xs in
     omega arith
 
-pub places_where-short : (test : ℕ → Bool) (n : ℕ) → n ≤ max_rows → IsShort (places_where test n)
+pub places_where-short : (test : ℕ → Bool) (n : ℕ) → n ≤ max_rows → IsShortList (places_where test n)
 places_where-short test n short =
     let less : length (places_where test n) ≤ length (places n) = length-filter-le test (places n) in
     let long : length (places n) ≡ n = length-places n in
     omega arith
 
 -- the rows that a one_test accepts
-abbrev pub accepted_rows : Stored → ColumnId → Test → List ℕ
+abbrev pub accepted_rows : StoredLists → ColumnId → Test → List ℕ
 accepted_rows stored column one_test = places_where (λ row. accepts stored column one_test row) (stored.rows column.table)
 
 -- one list for each one_test, from a number on
-abbrev pub SelectsHeld : Stored → Steps → ColumnId → ℕ → List Test → Type 0
+abbrev pub SelectsHeld : StoredLists → Steps → ColumnId → ℕ → List Test → Type 0
 SelectsHeld stored steps column next [] = ⊤
 SelectsHeld stored steps column next (one_test ∷ tests) = Holds stored steps next (accepted_rows stored column one_test) × SelectsHeld stored steps column (next + 1) tests
 
-SelectsHeld-later : (count : ℕ) (stored : Stored) (a b : Steps) (column : ColumnId) (next : ℕ) (tests : List Test)
+SelectsHeld-later : (count : ℕ) (stored : StoredLists) (a b : Steps) (column : ColumnId) (next : ℕ) (tests : List Test)
     → GoesOn count stored a b → SelectsHeld stored a column next tests → SelectsHeld stored b column next tests
 SelectsHeld-later count stored a b column next [] on held = _
 SelectsHeld-later count stored a b column next (one_test ∷ tests) on held =
     (Holds-later count stored a b next (accepted_rows stored column one_test) on held.0, SelectsHeld-later count stored a b column (next + 1) tests on held.1)
 
-add_selects-holds : (count : ℕ) (stored : Stored) → HasLengths stored → (steps : Steps) (column : ColumnId) (tests : List Test) → IsRun count stored steps
+add_selects-holds : (count : ℕ) (stored : StoredLists) → HasLengths stored → (steps : Steps) (column : ColumnId) (tests : List Test) → IsRun count stored steps
     → GoesOn count stored steps (add_selects steps column tests) × SelectsHeld stored (add_selects steps column tests) column (steps.columns + 1) tests
 add_selects-holds count stored given steps column [] run = (GoesOn-refl count stored steps run, _)
 add_selects-holds count stored given steps column (one_test ∷ tests) run =
@@ -88,7 +88,7 @@ or_assoc : (a b c : Bool) → ((a || b) || c) ≡ (a || (b || c))
 or_assoc true b c = refl
 or_assoc false b c = refl
 
-add_unions-holds : (count : ℕ) (stored : Stored) → HasLengths stored → (steps : Steps) (column : ColumnId) (running next : ℕ) (tests : List Test) (test : ℕ → Bool)
+add_unions-holds : (count : ℕ) (stored : StoredLists) → HasLengths stored → (steps : Steps) (column : ColumnId) (running next : ℕ) (tests : List Test) (test : ℕ → Bool)
     → IsRun count stored steps
     → Holds stored steps running (places_where test (stored.rows column.table))
     → SelectsHeld stored steps column next tests
@@ -151,20 +151,20 @@ met_choices None test value = meets_choices test (of_number value)
 met_choices (Some texts) test value = text_choices test (slice_get texts value)
 
 -- the rows at which one condition holds
-abbrev pub held_rows : Stored → Tested → List ℕ
+abbrev pub held_rows : StoredLists → Tested → List ℕ
 held_rows stored condition = places_where (holds stored condition) (stored.rows condition.column.table)
 
 -- the list of some tests on a column
 abbrev list_of_tests : Steps → ColumnId → List Test → Made
 list_of_tests steps column tests = add_unions (add_selects steps column tests) (steps.columns + 1) (steps.columns + 2) (drop 1 tests)
 
-abbrev HasTests : ℕ → Stored → Steps → ColumnId → List Test → Type 0
+abbrev HasTests : ℕ → StoredLists → Steps → ColumnId → List Test → Type 0
 HasTests count stored steps column tests =
     GoesOn count stored steps (list_of_tests steps column tests).steps
     × Holds stored (list_of_tests steps column tests).steps (list_of_tests steps column tests).number
     (places_where (λ row. list_any (λ one_test. accepts stored column one_test row) tests) (stored.rows column.table))
 
-list_of_tests-holds : (count : ℕ) (stored : Stored) → HasLengths stored → (steps : Steps) (column : ColumnId) (test : Test) (more : List Test) → IsRun count stored steps
+list_of_tests-holds : (count : ℕ) (stored : StoredLists) → HasLengths stored → (steps : Steps) (column : ColumnId) (test : Test) (more : List Test) → IsRun count stored steps
     → HasTests count stored steps column (test ∷ more)
 list_of_tests-holds count stored given steps column test more run =
     let selected = add_selects steps column (test ∷ more) in
@@ -176,7 +176,7 @@ list_of_tests-holds count stored given steps column test more run =
     (subst (λ k. SelectsHeld stored selected column k more) next first.1.1) in
     (GoesOn-then count stored steps selected all.steps first.0 rest.0, rest.1)
 
-pub add_condition-holds : (count : ℕ) (stored : Stored) → HasLengths stored → (steps : Steps) (condition : Tested) → HasChoices condition → IsRun count stored steps
+pub add_condition-holds : (count : ℕ) (stored : StoredLists) → HasLengths stored → (steps : Steps) (condition : Tested) → HasChoices condition → IsRun count stored steps
     → GoesOn count stored steps (add_condition steps condition).steps
     × Holds stored (add_condition steps condition).steps (add_condition steps condition).number (held_rows stored condition)
 add_condition-holds count stored given steps condition chosen run =
@@ -193,7 +193,7 @@ add_condition-holds count stored given steps condition chosen run =
     )
 
 -- a running list combined with the rows that a test keeps is what the test keeps of it
-pub combine-lists : (count : ℕ) (stored : Stored) (which : Option ℕ) (new : Made) (n : ℕ) (list : List ℕ) (test : ℕ → Bool)
+pub combine-lists : (count : ℕ) (stored : StoredLists) (which : Option ℕ) (new : Made) (n : ℕ) (list : List ℕ) (test : ℕ → Bool)
     → IsRun count stored new.steps → n ≤ max_rows → IsPositions n list
     → Lists stored new.steps which n list → Holds stored new.steps new.number (places_where test n)
     → GoesOn count stored new.steps (combine which new).steps × Lists stored (combine which new).steps (combine which new).list n (filter test list)
@@ -206,13 +206,13 @@ combine-lists count stored (Some running) new n list test run short positions ru
     (subst IsStrictlyIncreasing (sym running_is.is) positions.rising, subst IsStrictlyIncreasing (sym holds.is) (places_where-rise test n))
     (λ so_far.
     let less : length (filter test list) ≤ length list = length-filter-le test list in
-    let long : length list ≤ max_rows = subst IsShort running_is.is (column-short (columns_so_far stored new.steps) running so_far) in
+    let long : length list ≤ max_rows = subst IsShortList running_is.is (column-short (columns_so_far stored new.steps) running so_far) in
     omega arith)
 
 abbrev pub IsOn : ℕ → Tested → Type 0
 IsOn table condition = condition.column.table ≡ table
 
-pub add_conditions-lists : (count : ℕ) (stored : Stored) → HasLengths stored → (table : ℕ) (listed : Listed) (conditions : List Tested) (list : List ℕ)
+pub add_conditions-lists : (count : ℕ) (stored : StoredLists) → HasLengths stored → (table : ℕ) (listed : Listed) (conditions : List Tested) (list : List ℕ)
     → IsRun count stored listed.steps → All HasChoices conditions → All (IsOn table) conditions → IsPositions (stored.rows table) list
     → Lists stored listed.steps listed.list (stored.rows table) list
     → GoesOn count stored listed.steps (add_conditions listed conditions).steps
@@ -233,11 +233,11 @@ add_conditions-lists count stored given table listed (condition ∷ conditions) 
     (All-tail HasChoices condition conditions chosen) (All-tail (IsOn table) condition conditions on) (IsPositions-filter (holds stored condition) n list positions) combined.1 in
     (GoesOn-then count stored listed.steps made.steps all.steps new.0 (GoesOn-then count stored made.steps next.steps all.steps combined.0 rest.0), rest.1)
 
-pub passing-positions : (binding : Binding) (stored : Stored) (table : ℕ) → IsPositions (stored.rows table) (passing_rows binding stored table)
+pub passing-positions : (binding : Binding) (stored : StoredLists) (table : ℕ) → IsPositions (stored.rows table) (passing_rows binding stored table)
 passing-positions binding stored table = IsPositions-filter (passes binding stored table) (stored.rows table) (places (stored.rows table)) (IsPositions-places (stored.rows table))
 
 -- a table's list is its rows at which all of its conditions hold
-pub add_list-lists : (binding : Binding) (count : ℕ) (stored : Stored) → HasLengths stored → All HasChoices binding.tests → (steps : Steps) (table : ℕ) → IsRun count stored steps
+pub add_list-lists : (binding : Binding) (count : ℕ) (stored : StoredLists) → HasLengths stored → All HasChoices binding.tests → (steps : Steps) (table : ℕ) → IsRun count stored steps
     → GoesOn count stored steps (add_list steps binding table).steps
     × Lists stored (add_list steps binding table).steps (add_list steps binding table).list (stored.rows table) (passing_rows binding stored table)
 add_list-lists binding count stored given chosen steps table run =
@@ -252,7 +252,7 @@ add_list-lists binding count stored given chosen steps table run =
     (made.0, subst (Lists stored all.steps all.list n) (kept-filter (holds stored) conditions (places n)) made.1)
 
 -- a base column's values at a position list, all of it where there is none
-pub add_values-reads : (count : ℕ) (stored : Stored) → HasLengths stored → (steps : Steps) (id : ColumnId) (which : Option ℕ) (list : List ℕ)
+pub add_values-reads : (count : ℕ) (stored : StoredLists) → HasLengths stored → (steps : Steps) (id : ColumnId) (which : Option ℕ) (list : List ℕ)
     → IsRun count stored steps → Lists stored steps which (stored.rows id.table) list → All (λ place. place < stored.rows id.table) list
     → GoesOn count stored steps (add_values steps id which).steps
     × Reads stored (add_values steps id which).steps (add_values steps id which).input (lists.values_at (stored.values id) list)
@@ -266,7 +266,7 @@ add_values-reads count stored given steps id (Some number) list run holds below 
     (λ short. subst (λ n. n ≤ max_rows) (ap length holds.is ∙ sym (length-map list (slice_index (stored.values id)))) (column-short (columns_so_far stored steps) number short))
 
 -- a position list at places of it
-pub add_places-holds : (count : ℕ) (stored : Stored) (steps : Steps) (which : Option ℕ) (n : ℕ) (list : List ℕ) (at : ℕ) (places_at : List ℕ)
+pub add_places-holds : (count : ℕ) (stored : StoredLists) (steps : Steps) (which : Option ℕ) (n : ℕ) (list : List ℕ) (at : ℕ) (places_at : List ℕ)
     → IsRun count stored steps → Lists stored steps which n list → Holds stored steps at places_at → All (λ place. place < length list) places_at
     → GoesOn count stored steps (add_places steps which at).steps
     × Holds stored (add_places steps which at).steps (add_places steps which at).number (lists.values_at list places_at)
@@ -279,5 +279,5 @@ add_places-holds count stored steps (Some number) n list at places_at run list_i
     with_one-holds count stored steps (project (input.Made number) at) (lists.values_at list places_at) run
     (ap₂ (λ a b. lists.values_at a b ∷ []) list_is.is holds.is)
     (made_number stored steps number _ list_is, made_number stored steps at _ holds, refl)
-    (subst (λ l. All (λ place. place < length l) (column_of (columns_so_far stored steps) at)) (sym list_is.is) (subst (All (λ place. place < length list)) (sym holds.is) within))
+    (subst (λ l. All (λ place. place < length l) (made_column (columns_so_far stored steps) at)) (sym list_is.is) (subst (All (λ place. place < length list)) (sym holds.is) within))
     (λ short. subst (λ n. n ≤ max_rows) (ap length holds.is ∙ sym (length-map places_at (slice_index list))) (column-short (columns_so_far stored steps) at short))

@@ -1,5 +1,5 @@
 -- The joined rows one fact row after the other, and what a plan so far has made.
-use Rattle.std.specs.Prelude.{ℕ, ◌≡◌, ◌≤◌, ◌==◌, ◌&&◌, Bool, true, false, ◌⊎◌, List, [], ◌∷◌, Option, Some, None, map, flat_map, filter, length, ⊤}
+use Rattle.std.specs.Prelude.{ℕ, ◌≡◌, ◌<◌, ◌≤◌, ◌==◌, ◌&&◌, Bool, true, false, ◌⊎◌, List, [], ◌∷◌, Option, Some, None, map, flat_map, filter, length, ⊤}
 use Rattle.std.specs.List.{All, list_any, list_all}
 use Rattle.definitions_queries.specs.Queries.{Test}
 use Rattle.definitions_operators.specs.Operators.{places, places_where}
@@ -13,60 +13,59 @@ use Rattle.plan_core.specs.declared.plans.Input.TheVariants as input
 use Rattle.plan_core.specs.Plans.{Steps}
 use Rattle.plan_core.specs.Planner.{RowList, Rows, conditions_on, choices_of, is_joined, repeats}
 use Rattle.definitions_blocks.specs.Columns.{max_rows}
-use Rattle.plan_meaning.specs.StoredData.{Stored, value_at, holds}
-use Rattle.plan_meaning.specs.JoinedRows.{Combination, row_of, choices}
+use Rattle.plan_meaning.specs.StoredLists.{StoredLists, value_at, holds}
+use Rattle.plan_meaning.specs.JoinedRows.{Combination, row_of, one_of_each}
 use Rattle.plan_meaning.specs.Columns.{column}
-use Rattle.plan_meaning.specs.Law.{HasDistinct}
 
 -- # The joined rows, found from the fact rows
 
 -- whether all conditions on a table hold at a row of it
-abbrev pub passes : Binding → Stored → ℕ → ℕ → Bool
+abbrev pub passes : Binding → StoredLists → ℕ → ℕ → Bool
 passes binding stored table row = list_all (λ tested. holds stored tested row) (conditions_on table binding.tests)
 
 -- the rows of a table at which all conditions on it hold
-abbrev pub passing_rows : Binding → Stored → ℕ → List ℕ
+abbrev pub passing_rows : Binding → StoredLists → ℕ → List ℕ
 passing_rows binding stored table = places_where (passes binding stored table) (stored.rows table)
 
 -- the rows of a dimension whose key equals the fact row's join column and at which all conditions on it hold
-abbrev pub partners : Binding → Stored → ℕ → JoinTo → List ℕ
+abbrev pub partners : Binding → StoredLists → ℕ → JoinTo → List ℕ
 partners binding stored row to =
     places_where (λ other. passes binding stored to.key.table other && (value_at stored to.key other == value_at stored to.fact_column row))
     (stored.rows to.key.table)
 
 -- the combinations with one fact row, with the dimensions of these joins
-abbrev pub matches_of : Binding → Stored → List JoinTo → ℕ → List Combination
-matches_of binding stored joins row = map (λ others. record { fact = row; rows = others }) (choices (map (partners binding stored row) joins))
+abbrev pub matches_of : Binding → StoredLists → List JoinTo → ℕ → List Combination
+matches_of binding stored joins row = map (λ others. record { fact = row; rows = others }) (one_of_each (map (partners binding stored row) joins))
 
 -- all of them, by the fact row, then by the dimension rows in the order of FROM
-abbrev pub matched : Binding → Stored → List Combination
+abbrev pub matched : Binding → StoredLists → List Combination
 matched binding stored = flat_map (matches_of binding stored binding.joins) (passing_rows binding stored binding.fact)
 
 -- # What a plan so far has made
 
 -- the column with this number is made, and is the list
-pub record Holds (stored : Stored) (steps : Steps) (number : ℕ) (list : List ℕ) : Type 0 where
+pub record Holds (stored : StoredLists) (steps : Steps) (number : ℕ) (list : List ℕ) : Type 0 where
   pub from : 1 ≤ number
   pub made : number ≤ steps.columns
   pub is : column stored steps.operators number ≡ list
 
 -- an input is the list
-abbrev pub Reads : Stored → Steps → Input → List ℕ → Type 0
+abbrev pub Reads : StoredLists → Steps → Input → List ℕ → Type 0
 Reads stored steps (input.Base id) list = stored.values id ≡ list
 Reads stored steps (input.Made number) list = Holds stored steps number list
 
 -- a position list, or all places where there is none, is the list
-abbrev pub Lists : Stored → Steps → Option ℕ → ℕ → List ℕ → Type 0
+abbrev pub Lists : StoredLists → Steps → Option ℕ → ℕ → List ℕ → Type 0
 Lists stored steps None rows list = list ≡ places rows
 Lists stored steps (Some number) rows list = Holds stored steps number list
 
 -- each row list is that table's rows in the combinations
-abbrev pub HaveRows : Binding → Stored → Steps → List RowList → List Combination → Type 0
+abbrev pub HaveRows : Binding → StoredLists → Steps → List RowList → List Combination → Type 0
 HaveRows binding stored steps lists combinations =
     All (λ rows. Holds stored steps rows.number (map (row_of binding rows.table) combinations)) lists
 
 -- the fact list and the row lists, side by side, are the joined rows cut down to the fact table and the joined dimensions
-pub record AreJoined (binding : Binding) (schema : Schema) (stored : Stored) (rows : Rows) : Type 0 where
+pub record AreJoined (binding : Binding) (schema : Schema) (stored : StoredLists) (rows : Rows) : Type 0 where
   pub tables : map (λ list. list.table) rows.lists ≡ map (λ to. to.key.table) (filter (is_joined binding schema) binding.joins)
   pub facts : Lists stored rows.steps rows.facts (stored.rows binding.fact) (map (λ combination. combination.fact) (matched binding stored))
   pub lists : HaveRows binding stored rows.steps rows.lists (matched binding stored)
@@ -95,12 +94,17 @@ pub record IsLawful (binding : Binding) : Type 0 where
   pub tests : All (λ tested. IsOfTables binding tested.column) binding.tests
   pub chosen : All HasChoices binding.tests
 
+-- no two rows have one key
+abbrev pub HasApart : StoredLists → ColumnId → Type 0
+HasApart stored key =
+    (a b : ℕ) → a < stored.rows key.table → b < stored.rows key.table → value_at stored key a ≡ value_at stored key b → a ≡ b
+
 -- # What stored data keep: every column has a value for each row of its table
 
-pub record HasLengths (stored : Stored) : Type 0 where
+pub record HasLengths (stored : StoredLists) : Type 0 where
   pub lengths : (id : ColumnId) → length (stored.values id) ≡ stored.rows id.table
   pub short : (table : ℕ) → stored.rows table ≤ max_rows
 
-pub record StandsWhole (binding : Binding) (schema : Schema) (stored : Stored) : Type 0 where
+pub record StandsWhole (binding : Binding) (schema : Schema) (stored : StoredLists) : Type 0 where
   pub tables : HasLengths stored
-  pub keys : All (λ to. repeats schema to.key.table ≡ false → HasDistinct stored to.key) binding.joins
+  pub keys : All (λ to. repeats schema to.key.table ≡ false → HasApart stored to.key) binding.joins

@@ -15,10 +15,10 @@ use Rattle.query_bind.specs.declared.bounds.SumOf.{SumOf}
 use Rattle.query_bind.specs.declared.bounds.SumOf.TheVariants as operand
 use Rattle.plan_core.specs.declared.plans.SumPlace.{SumPlace}
 use Rattle.plan_core.specs.Plans.{Steps, Plan}
-use Rattle.plan_meaning.specs.StoredData.{Stored, holds}
+use Rattle.plan_meaning.specs.StoredLists.{StoredLists, holds}
 use Rattle.plan_meaning.specs.JoinedRows.{Combination, value_in, joined_rows}
 use Rattle.plan_meaning.specs.Columns.{column}
-use Rattle.plan_meaning.specs.Conditions.{MetSoFar}
+use Rattle.plan_meaning.specs.Operands.{MetSoFar}
 use Rattle.plan_meaning.specs.Law.{SumLists, group_columns, groups_by, key_lists, sum_lists, side_by_side, MeansQuery}
 use Rattle.plan_meaning.proofs.Matched.{matched, IsLawful}
 use Rattle.plan_meaning.proofs.CombinationLaws.{joined-matched}
@@ -28,7 +28,7 @@ use Rattle.plan_meaning.proofs.WholePlanLaws.{all_groups, key_values, steps_of, 
 
 -- # What the columns hold is what the query asks, over data that stand whole
 
-module _ (binding : Binding) (stored : Stored) where
+module _ (binding : Binding) (stored : StoredLists) where
   abbrev rows : List Combination
   rows = matched binding stored
 
@@ -115,19 +115,19 @@ module _ (binding : Binding) (stored : Stored) where
 
 -- # Columns as lists
 
-held_each : (stored : Stored) (steps : Steps) (numbers : List ℕ) (lists : List (List ℕ)) → HoldEach stored steps numbers lists → map (column stored steps.operators) numbers ≡ lists
+held_each : (stored : StoredLists) (steps : Steps) (numbers : List ℕ) (lists : List (List ℕ)) → HoldEach stored steps numbers lists → map (column stored steps.operators) numbers ≡ lists
 held_each stored steps [] [] hold = refl
 held_each stored steps [] (list ∷ lists) hold = absurd hold
 held_each stored steps (number ∷ numbers) [] hold = absurd hold
 held_each stored steps (number ∷ numbers) (list ∷ lists) hold = ap₂ (λ a l. a ∷ l) hold.0.is (held_each stored steps numbers lists hold.1)
 
-held_second : (stored : Stored) (steps : Steps) (number : Option ℕ) (list : Option (List ℕ)) → HoldSecond stored steps number list → option_map (column stored steps.operators) number ≡ list
+held_second : (stored : StoredLists) (steps : Steps) (number : Option ℕ) (list : Option (List ℕ)) → HoldSecond stored steps number list → option_map (column stored steps.operators) number ≡ list
 held_second stored steps None None hold = refl
 held_second stored steps None (Some list) hold = absurd hold
 held_second stored steps (Some number) None hold = absurd hold
 held_second stored steps (Some number) (Some list) hold = ap (λ l. Some l) hold.is
 
-held_sums : (stored : Stored) (plan : Plan) (places : List SumPlace) (lists : List SumLists) → HoldSums stored (steps_of plan) places lists → map (sum_lists stored plan) places ≡ lists
+held_sums : (stored : StoredLists) (plan : Plan) (places : List SumPlace) (lists : List SumLists) → HoldSums stored (steps_of plan) places lists → map (sum_lists stored plan) places ≡ lists
 held_sums stored plan [] [] hold = refl
 held_sums stored plan [] (list ∷ lists) hold = absurd hold
 held_sums stored plan (place ∷ places) [] hold = absurd hold
@@ -137,7 +137,7 @@ held_sums stored plan (place ∷ places) (list ∷ lists) hold =
     (held_sums stored plan places lists hold.1)
 
 -- over data that stand whole
-pub whole-means : (binding : Binding) (stored : Stored) (plan : Plan) → IsLawful binding → HoldsQuery binding stored plan → MeansQuery binding stored plan
+pub whole-means : (binding : Binding) (stored : StoredLists) (plan : Plan) → IsLawful binding → HoldsQuery binding stored plan → MeansQuery binding stored plan
 whole-means binding stored plan lawful holds =
     let keys_are : key_lists stored plan ≡ key_values binding stored binding.groups (all_groups binding stored) =
     held_each stored (steps_of plan) plan.keys (key_values binding stored binding.groups (all_groups binding stored)) holds.keys in
@@ -156,7 +156,7 @@ whole-means binding stored plan lawful holds =
       sums = subst (λ (found : List Combination). map (sum_lists stored plan) plan.sums ≡ map (sums_over binding stored found) binding.sums) same sums_are;
     }
   where
-    sums_over : Binding → Stored → List Combination → SumOf → SumLists
+    sums_over : Binding → StoredLists → List Combination → SumOf → SumLists
     sums_over binding stored found (operand.Plain id) =
         record { first = map (operand_of (group_columns binding stored) (value_in binding stored id) found) (groups_by (group_columns binding stored) found); second = None }
     sums_over binding stored found (operand.Product left right) =

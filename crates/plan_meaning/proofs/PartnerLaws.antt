@@ -9,9 +9,8 @@ use Rattle.definitions_operators.specs.Operators.{has, places, places_of}
 use Rattle.definitions_operators.specs.Groups.{distinct}
 use Rattle.query_bind.specs.Binding.{Binding}
 use Rattle.query_bind.specs.declared.bounds.JoinTo.{JoinTo}
-use Rattle.plan_meaning.specs.StoredData.{Stored, value_at}
-use Rattle.plan_meaning.specs.Law.{HasDistinct}
-use Rattle.plan_meaning.proofs.Matched.{partners, passes, passing_rows}
+use Rattle.plan_meaning.specs.StoredLists.{StoredLists, value_at}
+use Rattle.plan_meaning.proofs.Matched.{HasApart, partners, passes, passing_rows}
 use Rattle.definitions_operators.proofs.PlaceLaws.{places-below, places_where-below}
 use Rattle.definitions_operators.proofs.MapLaws.{filter-filter}
 use Rattle.definitions_operators.proofs.OperatorLaws.{range-below, range-from}
@@ -25,10 +24,10 @@ has-map g (row ∷ rows) value =
     ∙ (elim (g row == value) as (λ b. (b || is_some_row (filter (λ row. g row == value) rows)) ≡ is_some_row (cond b (row ∷ filter (λ row. g row == value) rows) (filter (λ row. g row == value) rows))) [ true ↦ refl | false ↦ refl ])
 
 -- whether a row has a key that equals the fact row's join column
-abbrev pub matches : Stored → JoinTo → ℕ → ℕ → Bool
+abbrev pub matches : StoredLists → JoinTo → ℕ → ℕ → Bool
 matches stored to fact row = value_at stored to.key row == value_at stored to.fact_column fact
 
-pub partners-passing : (binding : Binding) (stored : Stored) (fact : ℕ) (to : JoinTo)
+pub partners-passing : (binding : Binding) (stored : StoredLists) (fact : ℕ) (to : JoinTo)
     → filter (matches stored to fact) (passing_rows binding stored to.key.table) ≡ partners binding stored fact to
 partners-passing binding stored fact to = filter-filter (passes binding stored to.key.table) (matches stored to fact) (places (stored.rows to.key.table))
 
@@ -62,7 +61,7 @@ and_second true b h = h
 and_second false b h = absurd (cc)
 
 -- Where keys are distinct, a fact row has at most one partner.
-pub partners-alone : (binding : Binding) (stored : Stored) (fact : ℕ) (to : JoinTo) → HasDistinct stored to.key → IsAlone (partners binding stored fact to)
+pub partners-alone : (binding : Binding) (stored : StoredLists) (fact : ℕ) (to : JoinTo) → HasApart stored to.key → IsAlone (partners binding stored fact to)
 partners-alone binding stored fact to distinct =
     let n = stored.rows to.key.table in
     let found = value_at stored to.fact_column fact in
@@ -71,7 +70,7 @@ partners-alone binding stored fact to distinct =
     alone-range p 0 n (λ x y hx hy px py. distinct x y (omega arith) (omega arith) (is x px ∙ sym (is y py)))
 
 -- whether keys, those of the passing rows, have a fact row's join column
-pub has-partners : (binding : Binding) (stored : Stored) (fact : ℕ) (to : JoinTo)
+pub has-partners : (binding : Binding) (stored : StoredLists) (fact : ℕ) (to : JoinTo)
     → has (map (value_at stored to.key) (passing_rows binding stored to.key.table)) (value_at stored to.fact_column fact) ≡ is_some_row (partners binding stored fact to)
 has-partners binding stored fact to =
     has-map (value_at stored to.key) (passing_rows binding stored to.key.table) (value_at stored to.fact_column fact)

@@ -11,8 +11,8 @@ use Rattle.query_bind.specs.Binding.{Binding}
 use Rattle.query_bind.specs.declared.bounds.JoinTo.{JoinTo}
 use Rattle.plan_core.specs.Plans.{Steps}
 use Rattle.plan_core.specs.Planner.{RowList, Rows, add_column, add_values, is_wanted, number_of, repeats}
-use Rattle.plan_meaning.specs.StoredData.{Stored, value_at}
-use Rattle.plan_meaning.specs.JoinedRows.{Combination, choices, row_among, row_of, value_in}
+use Rattle.plan_meaning.specs.StoredLists.{StoredLists, value_at}
+use Rattle.plan_meaning.specs.JoinedRows.{Combination, one_of_each, row_among, row_of, value_in}
 use Rattle.plan_meaning.proofs.Matched.{AreJoined, HasLengths, Holds, Lists, Reads, matched, matches_of, partners, passes, passing_rows}
 use Rattle.definitions_operators.proofs.PlaceLaws.{places_where-below}
 use Rattle.definitions_operators.proofs.MapLaws.{map-map}
@@ -24,13 +24,13 @@ use Rattle.plan_meaning.proofs.ListStepLaws.{add_values-reads, passing-positions
 abbrev pub is_among : ℕ → List JoinTo → Bool
 is_among table joins = list_any (λ to. to.key.table == table) joins
 
-choices-within : (stored : Stored) (table : ℕ) (rows_of : JoinTo → List ℕ) (joins : List JoinTo)
+choices-within : (stored : StoredLists) (table : ℕ) (rows_of : JoinTo → List ℕ) (joins : List JoinTo)
     → ((to : JoinTo) → All (λ row. row < stored.rows to.key.table) (rows_of to))
     → is_among table joins ≡ true
-    → All (λ rows. row_among table joins rows < stored.rows table) (choices (map rows_of joins))
+    → All (λ rows. row_among table joins rows < stored.rows table) (one_of_each (map rows_of joins))
 choices-within stored table rows_of [] within among = absurd (cc)
 choices-within stored table rows_of (to ∷ joins) within among =
-    let all = choices (map rows_of joins) in
+    let all = one_of_each (map rows_of joins) in
     let P : List ℕ → Type 0 = λ rows. row_among table (to ∷ joins) rows < stored.rows table in
     All-flat_map (λ row. row < stored.rows to.key.table) P (λ row. map (λ others. row ∷ others) all)
     (λ row inside.
@@ -42,24 +42,24 @@ choices-within stored table rows_of (to ∷ joins) within among =
     (rows_of to) (within to)
 
 -- the rows of a combination are rows of their tables
-joined-within : (binding : Binding) (stored : Stored) (table : ℕ) → (binding.fact == table) ≡ false → is_among table binding.joins ≡ true
+joined-within : (binding : Binding) (stored : StoredLists) (table : ℕ) → (binding.fact == table) ≡ false → is_among table binding.joins ≡ true
     → All (λ combination. row_of binding table combination < stored.rows table) (matched binding stored)
 joined-within binding stored table other among =
     let P : Combination → Type 0 = λ combination. row_of binding table combination < stored.rows table in
     All-flat_map (λ fact. fact < stored.rows binding.fact) P (matches_of binding stored binding.joins)
     (λ fact inside.
-    All-map P (λ others. record { fact = fact; rows = others }) (choices (map (partners binding stored fact) binding.joins))
+    All-map P (λ others. record { fact = fact; rows = others }) (one_of_each (map (partners binding stored fact) binding.joins))
     (All-weaker (λ rows. row_among table binding.joins rows < stored.rows table) (λ rows. row_of binding table (record { fact = fact; rows = rows }) < stored.rows table)
     (λ rows below. subst (λ b. cond b fact (row_among table binding.joins rows) < stored.rows table) (sym other) below)
-    (choices (map (partners binding stored fact) binding.joins))
+    (one_of_each (map (partners binding stored fact) binding.joins))
     (choices-within stored table (partners binding stored fact) binding.joins
     (λ to. places_where-below (λ row. passes binding stored to.key.table row && matches stored to fact row) (stored.rows to.key.table)) among)))
     (passing_rows binding stored binding.fact) (passing-positions binding stored binding.fact).below
 
-facts-within : (binding : Binding) (stored : Stored) → All (λ combination. combination.fact < stored.rows binding.fact) (matched binding stored)
+facts-within : (binding : Binding) (stored : StoredLists) → All (λ combination. combination.fact < stored.rows binding.fact) (matched binding stored)
 facts-within binding stored =
     All-flat_map (λ fact. fact < stored.rows binding.fact) (λ (combination : Combination). combination.fact < stored.rows binding.fact) (matches_of binding stored binding.joins)
-    (λ fact inside. All-map (λ (combination : Combination). combination.fact < stored.rows binding.fact) (λ others. record { fact = fact; rows = others }) (choices (map (partners binding stored fact) binding.joins)) (λ k d h. inside))
+    (λ fact inside. All-map (λ (combination : Combination). combination.fact < stored.rows binding.fact) (λ others. record { fact = fact; rows = others }) (one_of_each (map (partners binding stored fact) binding.joins)) (λ k d h. inside))
     (passing_rows binding stored binding.fact) (passing-positions binding stored binding.fact).below
 
 -- a table among the joins, of a joined dimension, has a row list
@@ -81,7 +81,7 @@ among-tables wanted table (to ∷ joins) is among =
           ]) h among
     ]) (λ e. ap wanted ((Decides-eqb to.key.table table).0 e) ∙ is)
 
-number_of-lists : (stored : Stored) (steps : Steps) (list_of : ℕ → List ℕ) (table n : ℕ) (lists : List RowList)
+number_of-lists : (stored : StoredLists) (steps : Steps) (list_of : ℕ → List ℕ) (table n : ℕ) (lists : List RowList)
     → All (λ rows. Holds stored steps rows.number (list_of rows.table)) lists
     → list_any (λ other. other == table) (map (λ rows. rows.table) lists) ≡ true
     → Lists stored steps (number_of table lists) n (list_of table)
@@ -101,7 +101,7 @@ IsReadTable binding schema table =
     ⊎ (((binding.fact == table) ≡ false) × (is_among table binding.joins ≡ true) × ((is_wanted binding table || repeats schema table) ≡ true))
 
 -- Step 5: what a Group, Refine or Sum reads has one value for each joined row, the column's value in it.
-pub add_column-reads : (binding : Binding) (schema : Schema) (count : ℕ) (stored : Stored) → HasLengths stored → (steps : Steps) (rows : Rows) (id : ColumnId)
+pub add_column-reads : (binding : Binding) (schema : Schema) (count : ℕ) (stored : StoredLists) → HasLengths stored → (steps : Steps) (rows : Rows) (id : ColumnId)
     → IsRun count stored steps → GoesOn count stored rows.steps steps → AreJoined binding schema stored rows → IsReadTable binding schema id.table
     → GoesOn count stored steps (add_column steps binding rows id).steps
     × Reads stored (add_column steps binding rows id).steps (add_column steps binding rows id).input (map (value_in binding stored id) (matched binding stored))

@@ -10,10 +10,9 @@ use Rattle.catalog_core.specs.declared.schemas.Schema.{Schema}
 use Rattle.query_bind.specs.Binding.{Binding}
 use Rattle.query_bind.specs.declared.bounds.JoinTo.{JoinTo}
 use Rattle.plan_core.specs.Planner.{Dimension, RowList, Rows, add_dimensions, add_join, add_joins, add_list, add_semi_joins, is_joined, is_wanted, no_steps, plan_rows, repeats}
-use Rattle.plan_meaning.specs.StoredData.{Stored}
+use Rattle.plan_meaning.specs.StoredLists.{StoredLists}
 use Rattle.plan_meaning.specs.JoinedRows.{row_among, row_of}
-use Rattle.plan_meaning.specs.Law.{HasDistinct}
-use Rattle.plan_meaning.proofs.Matched.{AreApart, AreJoined, HasLengths, Holds, IsLawful, Lists, StandsWhole, matched, partners, passing_rows}
+use Rattle.plan_meaning.proofs.Matched.{HasApart, AreApart, AreJoined, HasLengths, Holds, IsLawful, Lists, StandsWhole, matched, partners, passing_rows}
 use Rattle.definitions_operators.proofs.ListLaws.{filter-map}
 use Rattle.definitions_operators.proofs.MapLaws.{kept, kept-filter, map-map}
 use Rattle.plan_meaning.proofs.JoinedLaws.{Found, IsAlone, cut, extended, found_from, have_rows, is_some_row, joined-found, row_among-cut, start, with_rows-fact, with_rows-row}
@@ -37,7 +36,7 @@ All-push-table to tables joins before now =
     (let h : (to.key.table == other.key.table) ≡ false = now k d within in grind (arith, nat_tests))
 
 -- Step 4: one dimension after the other.
-add_joins-found : (binding : Binding) (count : ℕ) (stored : Stored) → HasLengths stored → (rows : Rows) (dimensions : List Dimension) (found : List Found)
+add_joins-found : (binding : Binding) (count : ℕ) (stored : StoredLists) → HasLengths stored → (rows : Rows) (dimensions : List Dimension) (found : List Found)
     → IsRun count stored rows.steps → AreFound binding stored rows found
     → All (IsDimension binding stored rows.steps) dimensions → All (IsFrom binding) dimensions
     → AreApart (map (λ dimension. dimension.to) dimensions)
@@ -45,7 +44,7 @@ add_joins-found : (binding : Binding) (count : ℕ) (stored : Stored) → HasLen
     → GoesOn count stored rows.steps (add_joins rows dimensions).steps
     × AreFound binding stored (add_joins rows dimensions) (found_from (λ to fact. partners binding stored fact to) (map (λ dimension. dimension.to) dimensions) found)
     × (tables_of (add_joins rows dimensions).lists ≡ tables_of rows.lists ++ tables_joined (map (λ dimension. dimension.to) dimensions))
-    × (All (λ to. HasDistinct stored to.key) (map (λ dimension. dimension.to) dimensions) → Fits stored rows.steps → Fits stored (add_joins rows dimensions).steps)
+    × (All (λ to. HasApart stored to.key) (map (λ dimension. dimension.to) dimensions) → Fits stored rows.steps → Fits stored (add_joins rows dimensions).steps)
 unfolding found_from
 add_joins-found binding count stored given rows [] found run are is from apart new = (GoesOn-refl count stored rows.steps run, are, sym (append-nil (tables_of rows.lists)), λ distinct fits. fits)
 add_joins-found binding count stored given rows (dimension ∷ dimensions) found run are is from apart new =
@@ -64,7 +63,7 @@ add_joins-found binding count stored given rows (dimension ∷ dimensions) found
       GoesOn-then count stored rows.steps next.steps all.steps first.0 rest.0,
       rest.1,
       rest.2 ∙ ap (λ l. l ++ tables_joined joins) first.2 ∙ append_assoc (tables_of rows.lists) (to.key.table ∷ []) (tables_joined joins),
-      λ distinct fits. rest.3 (All-tail (λ to. HasDistinct stored to.key) to joins distinct) (first.3 (All-head (λ to. HasDistinct stored to.key) to joins distinct) fits),
+      λ distinct fits. rest.3 (All-tail (λ to. HasApart stored to.key) to joins distinct) (first.3 (All-head (λ to. HasApart stored to.key) to joins distinct) fits),
     )
 
 AreApart-filter : (test : JoinTo → Bool) (joins : List JoinTo) → AreApart joins → AreApart (filter test joins)
@@ -90,25 +89,25 @@ pub record IsJoinedTable (binding : Binding) (schema : Schema) (table : ℕ) : T
   pub joined : (is_wanted binding table || repeats schema table) ≡ true
 
 -- the rows found, read at the fact table and at a joined dimension, are the joined rows
-abbrev pub rows_found : Binding → Schema → Stored → List Found
+abbrev pub rows_found : Binding → Schema → StoredLists → List Found
 rows_found binding schema stored =
     found_from (λ to fact. partners binding stored fact to) (filter (is_joined binding schema) binding.joins)
     (map start (filter (have_rows binding stored (is_joined binding schema)) (passing_rows binding stored binding.fact)))
 
-others-alone : (binding : Binding) (schema : Schema) (stored : Stored) → StandsWhole binding schema stored → (fact : ℕ)
+others-alone : (binding : Binding) (schema : Schema) (stored : StoredLists) → StandsWhole binding schema stored → (fact : ℕ)
     → All (λ to. is_joined binding schema to ≡ false → IsAlone (partners binding stored fact to)) binding.joins
 others-alone binding schema stored stands fact =
-    All-weaker (λ to. repeats schema to.key.table ≡ false → HasDistinct stored to.key) (λ to. is_joined binding schema to ≡ false → IsAlone (partners binding stored fact to))
+    All-weaker (λ to. repeats schema to.key.table ≡ false → HasApart stored to.key) (λ to. is_joined binding schema to ≡ false → IsAlone (partners binding stored fact to))
     (λ to distinct none. partners-alone binding stored fact to (distinct (or_false_right (is_wanted binding to.key.table) (repeats schema to.key.table) none))) binding.joins stands.keys
 
-facts-found : (binding : Binding) (schema : Schema) (stored : Stored) → StandsWhole binding schema stored
+facts-found : (binding : Binding) (schema : Schema) (stored : StoredLists) → StandsWhole binding schema stored
     → map (λ each. each.fact) (rows_found binding schema stored) ≡ map (λ combination. combination.fact) (matched binding stored)
 facts-found binding schema stored stands =
     joined-found binding stored (is_joined binding schema) (λ each. each.fact) (λ combination. combination.fact)
     (λ fact rows. with_rows-fact (filter (is_joined binding schema) binding.joins) (cut (is_joined binding schema) binding.joins rows) (start fact))
     (others-alone binding schema stored stands)
 
-rows-found : (binding : Binding) (schema : Schema) (stored : Stored) → IsLawful binding → StandsWhole binding schema stored → (table : ℕ) → IsJoinedTable binding schema table
+rows-found : (binding : Binding) (schema : Schema) (stored : StoredLists) → IsLawful binding → StandsWhole binding schema stored → (table : ℕ) → IsJoinedTable binding schema table
     → map (λ each. each.row table) (rows_found binding schema stored) ≡ map (row_of binding table) (matched binding stored)
 rows-found binding schema stored lawful stands table is =
     let wanted = is_joined binding schema in
@@ -124,11 +123,11 @@ rows-found binding schema stored lawful stands table is =
     (others-alone binding schema stored stands)
 
 -- Steps 1 to 4.
-pub plan_rows-found : (binding : Binding) (schema : Schema) (count : ℕ) (stored : Stored) → IsLawful binding → StandsWhole binding schema stored
+pub plan_rows-found : (binding : Binding) (schema : Schema) (count : ℕ) (stored : StoredLists) → IsLawful binding → StandsWhole binding schema stored
     → IsRun count stored (plan_rows binding schema).steps
     × AreFound binding stored (plan_rows binding schema) (rows_found binding schema stored)
     × (tables_of (plan_rows binding schema).lists ≡ tables_joined (filter (is_joined binding schema) binding.joins))
-    × (All (λ to. HasDistinct stored to.key) binding.joins → Fits stored (plan_rows binding schema).steps)
+    × (All (λ to. HasApart stored to.key) binding.joins → Fits stored (plan_rows binding schema).steps)
 plan_rows-found binding schema count stored lawful stands =
     let given = stands.tables in
     let wanted = is_joined binding schema in
@@ -179,12 +178,12 @@ plan_rows-found binding schema count stored lawful stands =
       subst (λ joins. AreFound binding stored (plan_rows binding schema) (found_from (λ to fact. partners binding stored fact to) joins start_found)) joins_are step4.1,
       step4.2 ∙ ap tables_joined joins_are,
       λ distinct.
-          step4.3 (subst (All (λ to. HasDistinct stored to.key)) (sym joins_are) (All-filter wanted (λ to. HasDistinct stored to.key) binding.joins distinct))
+          step4.3 (subst (All (λ to. HasApart stored to.key)) (sym joins_are) (All-filter wanted (λ to. HasApart stored to.key) binding.joins distinct))
           (Fits-semi_joins stored facts others (Fits-list stored first.steps binding binding.fact (Fits-dimensions stored no_steps binding binding.joins [] _))),
     )
 
 -- The law of steps 1 to 4.
-pub plan_rows-joined : (binding : Binding) (schema : Schema) (stored : Stored) → IsLawful binding → StandsWhole binding schema stored → AreJoined binding schema stored (plan_rows binding schema)
+pub plan_rows-joined : (binding : Binding) (schema : Schema) (stored : StoredLists) → IsLawful binding → StandsWhole binding schema stored → AreJoined binding schema stored (plan_rows binding schema)
 plan_rows-joined binding schema stored lawful stands =
     let rows = plan_rows binding schema in
     let wanted = is_joined binding schema in

@@ -16,11 +16,11 @@ use Rattle.plan_core.specs.declared.plans.SumPlace.{SumPlace}
 use Rattle.plan_core.specs.Plans.{Steps, project, sum, sum_product}
 use Rattle.plan_core.specs.Planner.{Rows, add_column, with_one}
 use Rattle.plan_core.specs.WholePlan.{Grouped, Keys, Sums, add_keys, add_sum, add_sums}
-use Rattle.plan_meaning.specs.StoredData.{Stored, holds}
+use Rattle.plan_meaning.specs.StoredLists.{StoredLists, holds}
 use Rattle.definitions_blocks.specs.Columns.{max_rows}
 use Rattle.plan_meaning.specs.JoinedRows.{value_in}
-use Rattle.plan_meaning.specs.Columns.{column_of, sums_by}
-use Rattle.plan_meaning.specs.Conditions.{AreIds, HasIds, IsShort}
+use Rattle.plan_meaning.specs.Columns.{made_column, sums_by}
+use Rattle.plan_meaning.specs.Operands.{AreIds, HasIds, IsShortList}
 use Rattle.plan_meaning.specs.Law.{SumLists}
 use Rattle.plan_meaning.proofs.Matched.{AreJoined, HasLengths, Holds, Reads, matched}
 use Rattle.definitions_operators.proofs.PlaceLaws.{length-places}
@@ -29,20 +29,20 @@ use Rattle.plan_meaning.proofs.ReadLaws.{add_column-reads}
 use Rattle.plan_meaning.proofs.GroupStepLaws.{AreGroups, IsReadColumn, ReadEach, ReadEach-later, values_of}
 
 -- columns hold lists, one by one
-abbrev pub HoldEach : Stored → Steps → List ℕ → List (List ℕ) → Type 0
+abbrev pub HoldEach : StoredLists → Steps → List ℕ → List (List ℕ) → Type 0
 HoldEach stored steps [] [] = ⊤
 HoldEach stored steps (number ∷ numbers) (list ∷ lists) = Holds stored steps number list × HoldEach stored steps numbers lists
 HoldEach stored steps numbers lists = ⊥
 
-abbrev pub HoldSecond : Stored → Steps → Option ℕ → Option (List ℕ) → Type 0
+abbrev pub HoldSecond : StoredLists → Steps → Option ℕ → Option (List ℕ) → Type 0
 HoldSecond stored steps None None = ⊤
 HoldSecond stored steps (Some number) (Some list) = Holds stored steps number list
 HoldSecond stored steps number list = ⊥
 
-abbrev pub HoldSum : Stored → Steps → SumPlace → SumLists → Type 0
+abbrev pub HoldSum : StoredLists → Steps → SumPlace → SumLists → Type 0
 HoldSum stored steps place lists = Holds stored steps place.first lists.first × HoldSecond stored steps place.second lists.second
 
-abbrev pub HoldSums : Stored → Steps → List SumPlace → List SumLists → Type 0
+abbrev pub HoldSums : StoredLists → Steps → List SumPlace → List SumLists → Type 0
 HoldSums stored steps [] [] = ⊤
 HoldSums stored steps (place ∷ places) (lists ∷ rest) = HoldSum stored steps place lists × HoldSums stored steps places rest
 HoldSums stored steps places lists = ⊥
@@ -52,7 +52,7 @@ abbrev pub totals : Option Grouping → List ℕ → List ℕ
 totals None values = Rattle.std.specs.Prelude.sum values ∷ []
 totals (Some groups) values = sums_of values groups.ids (length groups.extents)
 
-abbrev pub item_sums : Binding → Stored → Option Grouping → SumOf → SumLists
+abbrev pub item_sums : Binding → StoredLists → Option Grouping → SumOf → SumLists
 item_sums binding stored groups (operand.Plain id) = record { first = totals groups (values_of binding stored id); second = None }
 item_sums binding stored groups (operand.Product left right) =
     record { first = totals groups (products_of (values_of binding stored left) (values_of binding stored right)); second = None }
@@ -60,18 +60,18 @@ item_sums binding stored groups (operand.Difference left right) =
     record { first = totals groups (values_of binding stored left); second = Some (totals groups (values_of binding stored right)) }
 
 -- the ids that sums go by hold the groups of n rows, and the extents follow them
-pub record HoldsGroupIds (stored : Stored) (steps : Steps) (n ids : ℕ) (groups : Grouping) : Type 0 where
+pub record HoldsGroupIds (stored : StoredLists) (steps : Steps) (n ids : ℕ) (groups : Grouping) : Type 0 where
   pub ids_hold : Holds stored steps ids groups.ids
   pub extents_hold : Holds stored steps (ids + 1) groups.extents
   pub count : length groups.ids ≡ n
   pub numbers : All (λ id. id < length groups.extents) groups.ids
 
-abbrev pub HoldsIds : Stored → Steps → ℕ → Option ℕ → Option Grouping → Type 0
+abbrev pub HoldsIds : StoredLists → Steps → ℕ → Option ℕ → Option Grouping → Type 0
 HoldsIds stored steps n None None = ⊤
 HoldsIds stored steps n (Some ids) (Some groups) = HoldsGroupIds stored steps n ids groups
 HoldsIds stored steps n ids groups = ⊥
 
-pub HoldsIds-groups : (stored : Stored) (steps : Steps) (n : ℕ) (last : Option Grouped) (groups : Option Grouping)
+pub HoldsIds-groups : (stored : StoredLists) (steps : Steps) (n : ℕ) (last : Option Grouped) (groups : Option Grouping)
     → AreGroups stored steps n last groups → HoldsIds stored steps n (option_map (λ last. last.ids) last) groups
 HoldsIds-groups stored steps n None None is = _
 HoldsIds-groups stored steps n None (Some groups) is = absurd is
@@ -83,7 +83,7 @@ HoldsIds-groups stored steps n (Some last) (Some groups) is = record {
   numbers = is.numbers;
 }
 
-HoldsIds-later : (count : ℕ) (stored : Stored) (a b : Steps) (n : ℕ) (ids : Option ℕ) (groups : Option Grouping) → GoesOn count stored a b → HoldsIds stored a n ids groups → HoldsIds stored b n ids groups
+HoldsIds-later : (count : ℕ) (stored : StoredLists) (a b : Steps) (n : ℕ) (ids : Option ℕ) (groups : Option Grouping) → GoesOn count stored a b → HoldsIds stored a n ids groups → HoldsIds stored b n ids groups
 HoldsIds-later count stored a b n None None on is = _
 HoldsIds-later count stored a b n None (Some groups) on is = is
 HoldsIds-later count stored a b n (Some ids) None on is = is
@@ -94,25 +94,25 @@ HoldsIds-later count stored a b n (Some ids) (Some groups) on is = record {
   numbers = is.numbers;
 }
 
-made_ids : (stored : Stored) (steps : Steps) (n : ℕ) (ids : Option ℕ) (groups : Option Grouping) → HoldsIds stored steps n ids groups → AreIds steps.columns ids
+made_ids : (stored : StoredLists) (steps : Steps) (n : ℕ) (ids : Option ℕ) (groups : Option Grouping) → HoldsIds stored steps n ids groups → AreIds steps.columns ids
 made_ids stored steps n None None is = _
 made_ids stored steps n None (Some groups) is = absurd is
 made_ids stored steps n (Some ids) None is = absurd is
 made_ids stored steps n (Some ids) (Some groups) is = (made_number stored steps ids groups.ids is.ids_hold, made_number stored steps (ids + 1) groups.extents is.extents_hold)
 
-has_ids : (count : ℕ) (stored : Stored) (steps : Steps) (n : ℕ) (ids : Option ℕ) (groups : Option Grouping) → HoldsIds stored steps n ids groups → n ≡ count
+has_ids : (count : ℕ) (stored : StoredLists) (steps : Steps) (n : ℕ) (ids : Option ℕ) (groups : Option Grouping) → HoldsIds stored steps n ids groups → n ≡ count
     → HasIds count (columns_so_far stored steps) ids
 has_ids count stored steps n None None is many = _
 has_ids count stored steps n None (Some groups) is many = absurd is
 has_ids count stored steps n (Some ids) None is many = absurd is
 has_ids count stored steps n (Some ids) (Some groups) is many = (
   ap length is.ids_hold.is ∙ is.count ∙ many,
-  subst (λ l. All (λ id. id < length l) (column_of (columns_so_far stored steps) ids)) (sym is.extents_hold.is)
+  subst (λ l. All (λ id. id < length l) (made_column (columns_so_far stored steps) ids)) (sym is.extents_hold.is)
       (subst (All (λ id. id < length groups.extents)) (sym is.ids_hold.is) is.numbers),
 )
 
 -- what a sum gives
-summed-is : (stored : Stored) (steps : Steps) (n : ℕ) (ids : Option ℕ) (groups : Option Grouping) (values : List ℕ) → HoldsIds stored steps n ids groups
+summed-is : (stored : StoredLists) (steps : Steps) (n : ℕ) (ids : Option ℕ) (groups : Option Grouping) (values : List ℕ) → HoldsIds stored steps n ids groups
     → sums_by (columns_so_far stored steps) values ids ≡ totals groups values
 summed-is stored steps n None None values is = refl
 summed-is stored steps n None (Some groups) values is = absurd is
@@ -120,17 +120,17 @@ summed-is stored steps n (Some ids) None values is = absurd is
 summed-is stored steps n (Some ids) (Some groups) values is =
     ap₂ (λ by extents. sums_of values by (length extents)) is.ids_hold.is is.extents_hold.is
 
-summed-short : (stored : Stored) (steps : Steps) (n : ℕ) (ids : Option ℕ) (groups : Option Grouping) (values : List ℕ) → HoldsIds stored steps n ids groups
-    → All IsShort (columns_so_far stored steps) → IsShort (totals groups values)
+summed-short : (stored : StoredLists) (steps : Steps) (n : ℕ) (ids : Option ℕ) (groups : Option Grouping) (values : List ℕ) → HoldsIds stored steps n ids groups
+    → All IsShortList (columns_so_far stored steps) → IsShortList (totals groups values)
 summed-short stored steps n None None values is short = omega arith
 summed-short stored steps n None (Some groups) values is short = absurd is
 summed-short stored steps n (Some ids) None values is short = absurd is
 summed-short stored steps n (Some ids) (Some groups) values is short =
-    let few : IsShort groups.extents = subst IsShort is.extents_hold.is (column-short (columns_so_far stored steps) (ids + 1) short) in
+    let few : IsShortList groups.extents = subst IsShortList is.extents_hold.is (column-short (columns_so_far stored steps) (ids + 1) short) in
     subst (λ m. m ≤ max_rows) (sym (length-map (places (length groups.extents)) _ ∙ length-places (length groups.extents))) few
 
 -- one Sum more
-with_sum-holds : (count : ℕ) (stored : Stored) (steps : Steps) (ids : Option ℕ) (groups : Option Grouping) (given_input : Input) (values : List ℕ) (number operand : ℕ)
+with_sum-holds : (count : ℕ) (stored : StoredLists) (steps : Steps) (ids : Option ℕ) (groups : Option Grouping) (given_input : Input) (values : List ℕ) (number operand : ℕ)
     → IsRun count stored steps → HoldsIds stored steps (length values) ids groups → Reads stored steps given_input values → length values ≡ count
     → GoesOn count stored steps (with_one steps (λ out. sum given_input ids out number operand))
     × Holds stored (with_one steps (λ out. sum given_input ids out number operand)) (steps.columns + 1) (totals groups values)
@@ -143,7 +143,7 @@ with_sum-holds count stored steps ids groups given_input values number operand r
     (summed-short stored steps (length values) ids groups values is)
 
 -- one SumProduct more
-with_product-holds : (count : ℕ) (stored : Stored) (steps : Steps) (ids : Option ℕ) (groups : Option Grouping) (first second : Input) (left right : List ℕ) (n number : ℕ)
+with_product-holds : (count : ℕ) (stored : StoredLists) (steps : Steps) (ids : Option ℕ) (groups : Option Grouping) (first second : Input) (left right : List ℕ) (n number : ℕ)
     → IsRun count stored steps → HoldsIds stored steps n ids groups → Reads stored steps first left → Reads stored steps second right → length left ≡ n → length right ≡ n → n ≡ count
     → GoesOn count stored steps (with_one steps (λ out. sum_product first second ids out number))
     × Holds stored (with_one steps (λ out. sum_product first second ids out number)) (steps.columns + 1) (totals groups (products_of left right))
@@ -157,7 +157,7 @@ with_product-holds count stored steps ids groups first second left right n numbe
     (summed-short stored steps n ids groups (products_of left right) is)
 
 -- Step 6 for one sum.
-add_sum-holds : (binding : Binding) (schema : Schema) (count : ℕ) (stored : Stored) → HasLengths stored → length (matched binding stored) ≡ count → (steps : Steps) (rows : Rows) (ids : Option ℕ) (groups : Option Grouping) (number : ℕ) (one : SumOf)
+add_sum-holds : (binding : Binding) (schema : Schema) (count : ℕ) (stored : StoredLists) → HasLengths stored → length (matched binding stored) ≡ count → (steps : Steps) (rows : Rows) (ids : Option ℕ) (groups : Option Grouping) (number : ℕ) (one : SumOf)
     → IsRun count stored steps → GoesOn count stored rows.steps steps → AreJoined binding schema stored rows → All (IsReadColumn binding schema) (operands one)
     → HoldsIds stored steps (length (matched binding stored)) ids groups
     → GoesOn count stored steps (add_sum steps binding rows ids number one).steps
@@ -213,20 +213,20 @@ add_sum-holds binding schema count stored given whole steps rows ids groups numb
       ),
     )
 
-HoldSecond-later : (count : ℕ) (stored : Stored) (a b : Steps) (number : Option ℕ) (list : Option (List ℕ)) → GoesOn count stored a b → HoldSecond stored a number list → HoldSecond stored b number list
+HoldSecond-later : (count : ℕ) (stored : StoredLists) (a b : Steps) (number : Option ℕ) (list : Option (List ℕ)) → GoesOn count stored a b → HoldSecond stored a number list → HoldSecond stored b number list
 HoldSecond-later count stored a b None None on holds = _
 HoldSecond-later count stored a b None (Some list) on holds = holds
 HoldSecond-later count stored a b (Some number) None on holds = holds
 HoldSecond-later count stored a b (Some number) (Some list) on holds = Holds-later count stored a b number list on holds
 
-pub HoldSums-later : (count : ℕ) (stored : Stored) (a b : Steps) (places : List SumPlace) (lists : List SumLists) → GoesOn count stored a b → HoldSums stored a places lists → HoldSums stored b places lists
+pub HoldSums-later : (count : ℕ) (stored : StoredLists) (a b : Steps) (places : List SumPlace) (lists : List SumLists) → GoesOn count stored a b → HoldSums stored a places lists → HoldSums stored b places lists
 HoldSums-later count stored a b [] [] on all = _
 HoldSums-later count stored a b [] (list ∷ lists) on all = all
 HoldSums-later count stored a b (place ∷ places) [] on all = all
 HoldSums-later count stored a b (place ∷ places) (list ∷ lists) on all =
     ((Holds-later count stored a b place.first list.first on all.0.0, HoldSecond-later count stored a b place.second list.second on all.0.1), HoldSums-later count stored a b places lists on all.1)
 
-HoldSums-push : (stored : Stored) (steps : Steps) (places : List SumPlace) (lists : List SumLists) (place : SumPlace) (list : SumLists)
+HoldSums-push : (stored : StoredLists) (steps : Steps) (places : List SumPlace) (lists : List SumLists) (place : SumPlace) (list : SumLists)
     → HoldSums stored steps places lists → HoldSum stored steps place list → HoldSums stored steps (places ++ place ∷ []) (lists ++ list ∷ [])
 HoldSums-push stored steps [] [] place list all one = (one, _)
 HoldSums-push stored steps [] (other ∷ lists) place list all one = absurd all
@@ -234,7 +234,7 @@ HoldSums-push stored steps (first ∷ places) [] place list all one = absurd all
 HoldSums-push stored steps (first ∷ places) (other ∷ lists) place list all one = (all.0, HoldSums-push stored steps places lists place list all.1 one)
 
 -- Step 6.
-pub add_sums-hold : (binding : Binding) (schema : Schema) (count : ℕ) (stored : Stored) → HasLengths stored → length (matched binding stored) ≡ count → (rows : Rows) (ids : Option ℕ) (groups : Option Grouping) (number : ℕ) (sums : Sums) (todo : List SumOf) (lists : List SumLists)
+pub add_sums-hold : (binding : Binding) (schema : Schema) (count : ℕ) (stored : StoredLists) → HasLengths stored → length (matched binding stored) ≡ count → (rows : Rows) (ids : Option ℕ) (groups : Option Grouping) (number : ℕ) (sums : Sums) (todo : List SumOf) (lists : List SumLists)
     → IsRun count stored sums.steps → GoesOn count stored rows.steps sums.steps → AreJoined binding schema stored rows → All (λ one. All (IsReadColumn binding schema) (operands one)) todo
     → HoldsIds stored sums.steps (length (matched binding stored)) ids groups → HoldSums stored sums.steps sums.places lists
     → GoesOn count stored sums.steps (add_sums binding rows ids number sums todo).steps
@@ -257,13 +257,13 @@ add_sums-hold binding schema count stored given whole rows ids groups number sum
       subst (HoldSums stored all.steps all.places) (append_assoc lists (list ∷ []) (map (item_sums binding stored groups) todo)) rest.1,
     )
 
-HoldEach-later : (count : ℕ) (stored : Stored) (a b : Steps) (numbers : List ℕ) (lists : List (List ℕ)) → GoesOn count stored a b → HoldEach stored a numbers lists → HoldEach stored b numbers lists
+HoldEach-later : (count : ℕ) (stored : StoredLists) (a b : Steps) (numbers : List ℕ) (lists : List (List ℕ)) → GoesOn count stored a b → HoldEach stored a numbers lists → HoldEach stored b numbers lists
 HoldEach-later count stored a b [] [] on all = _
 HoldEach-later count stored a b [] (list ∷ lists) on all = all
 HoldEach-later count stored a b (number ∷ numbers) [] on all = all
 HoldEach-later count stored a b (number ∷ numbers) (list ∷ lists) on all = (Holds-later count stored a b number list on all.0, HoldEach-later count stored a b numbers lists on all.1)
 
-HoldEach-push : (stored : Stored) (steps : Steps) (numbers : List ℕ) (lists : List (List ℕ)) (number : ℕ) (list : List ℕ)
+HoldEach-push : (stored : StoredLists) (steps : Steps) (numbers : List ℕ) (lists : List (List ℕ)) (number : ℕ) (list : List ℕ)
     → HoldEach stored steps numbers lists → Holds stored steps number list → HoldEach stored steps (numbers ++ number ∷ []) (lists ++ list ∷ [])
 HoldEach-push stored steps [] [] number list all one = (one, _)
 HoldEach-push stored steps [] (other ∷ lists) number list all one = absurd all
@@ -271,7 +271,7 @@ HoldEach-push stored steps (first ∷ numbers) [] number list all one = absurd a
 HoldEach-push stored steps (first ∷ numbers) (other ∷ lists) number list all one = (all.0, HoldEach-push stored steps numbers lists number list all.1 one)
 
 -- Step 7: the values of n rows each, at the extents.
-pub add_keys-hold : (count : ℕ) (stored : Stored) (n extents : ℕ) (at : List ℕ) (keys : Keys) (inputs : List Input) (values done : List (List ℕ))
+pub add_keys-hold : (count : ℕ) (stored : StoredLists) (n extents : ℕ) (at : List ℕ) (keys : Keys) (inputs : List Input) (values done : List (List ℕ))
     → IsRun count stored keys.steps → Holds stored keys.steps extents at → All (λ place. place < n) at
     → ReadEach stored keys.steps inputs values → All (λ list. length list ≡ n) values → HoldEach stored keys.steps keys.keys done
     → GoesOn count stored keys.steps (add_keys extents keys inputs).steps
@@ -289,7 +289,7 @@ add_keys-hold count stored n extents at keys (input ∷ inputs) (list ∷ values
     let first = with_one-holds count stored keys.steps (project input extents) key run
     (ap₂ (λ a b. lists.values_at a b ∷ []) input_is at_is.is)
     (made_input stored keys.steps input list read.0, made_number stored keys.steps extents at at_is, refl)
-    (subst (λ l. All (λ place. place < length l) (column_of (columns_so_far stored keys.steps) extents)) (sym input_is)
+    (subst (λ l. All (λ place. place < length l) (made_column (columns_so_far stored keys.steps) extents)) (sym input_is)
     (subst (All (λ place. place < length list)) (sym at_is.is) (subst (λ m. All (λ place. place < m) at) (sym (All-head Long list values long)) below)))
     (λ short. subst (λ m. m ≤ max_rows) (ap length at_is.is ∙ sym (length-map at (slice_index list))) (column-short (columns_so_far stored keys.steps) extents short)) in
     let rest = add_keys-hold count stored n extents at next inputs values (done ++ key ∷ []) first.0.run (Holds-later count stored keys.steps one extents at first.0 at_is) below

@@ -16,16 +16,24 @@ use Rattle.plan_core.specs.declared.plans.Input.{Input}
 use Rattle.plan_core.specs.declared.plans.Input.TheVariants as input
 use Rattle.plan_core.specs.Plans.{Operator, select, union, intersect, project, semi_join, join, group, refine, sum, sum_product, Plan}
 use Rattle.definitions_blocks.specs.Columns.{max_rows}
-use Rattle.plan_meaning.specs.StoredData.{Stored, is_met}
-use Rattle.plan_meaning.specs.JoinedRows.{Combination, row_of, value_in, combinations, is_matched, is_tested, joined_rows}
-use Rattle.plan_meaning.specs.Columns.{column_of, input_of, sums_by, both_lists, outputs, columns_after, is_too_large, too_large_from}
-use Rattle.plan_meaning.specs.Conditions.{IsShort, HasOperands, MetSoFar, IsNeeded, NeedsInput, ReadsNeeded}
+use Rattle.plan_meaning.specs.StoredLists.{StoredLists, is_met}
+use Rattle.plan_meaning.specs.JoinedRows.{one_of_each, Combination, row_of, value_in, combinations, is_matched, is_tested, joined_rows}
+use Rattle.plan_meaning.specs.Columns.{made_column, input_of, sums_by, both_lists, outputs, columns_after, is_too_large, too_large_from}
+use Rattle.plan_meaning.specs.Operands.{IsShortList, HasOperands, MetSoFar}
+use Rattle.plan_meaning.specs.Shapes.{IsNeeded, NeedsInput, ReadsNeeded}
 use Rattle.plan_meaning.specs.Law.{group_columns, groups_by, query_groups, group_sums, query_sums, key_lists, sum_lists, side_by_side, MeansQuery}
 use Rattle.plan_meaning.proofs.CombinationLaws.{all-same}
 use Rattle.plan_meaning.proofs.NeededLaws.{needs_all, needed_data, needed_values}
+use Rattle.plan_meaning.proofs.Matched.{IsLawful}
+use Rattle.plan_meaning.proofs.NeededLaws.{is_of, fact_of, keys_of, rows_of}
+use Rattle.definitions_operators.specs.Operators.{places}
+use Rattle.std.specs.Prelude.{flat_map}
+use Rattle.plan_meaning.specs.JoinedRows.{one_of_each}
+use Rattle.std.proofs.Common.{true}
+use Rattle.std.specs.Prelude.{filter}
 
-module _ (binding : Binding) (stored : Stored) where
-  abbrev data_needed : Stored
+module _ (binding : Binding) (stored : StoredLists) (lawful : IsLawful binding) where
+  abbrev data_needed : StoredLists
   data_needed = needed_data binding stored
 
   -- # What operators make
@@ -37,14 +45,14 @@ module _ (binding : Binding) (stored : Stored) where
   outputs_same columns (select id test out) needs = ap (λ values. lists.passing_places (is_met (stored.texts id) test) values ∷ []) (needed_values binding stored id needs)
   outputs_same columns (union left right out) needs = refl
   outputs_same columns (intersect left right out) needs = refl
-  outputs_same columns (project values places out) needs = ap (λ l. lists.values_at l (column_of columns places) ∷ []) (input_same columns values needs)
+  outputs_same columns (project values places out) needs = ap (λ l. lists.values_at l (made_column columns places) ∷ []) (input_same columns values needs)
   outputs_same columns (semi_join probe keys out) needs =
       ap₂ (λ values keys. lists.semi_join values keys ∷ []) (needed_values binding stored probe needs.0) (input_same columns keys needs.1)
   outputs_same columns (join probe keys left right) needs =
       ap₂ (λ values keys. map (λ (pair : ℕ × ℕ). pair.0) (lists.join values keys) ∷ map (λ (pair : ℕ × ℕ). pair.1) (lists.join values keys) ∷ [])
       (input_same columns probe needs.0) (input_same columns keys needs.1)
   outputs_same columns (group values ids extents) needs = ap (λ l. both_lists (by_groups.group l)) (input_same columns values needs)
-  outputs_same columns (refine before values ids extents) needs = ap (λ l. both_lists (by_groups.refine (column_of columns before) l)) (input_same columns values needs)
+  outputs_same columns (refine before values ids extents) needs = ap (λ l. both_lists (by_groups.refine (made_column columns before) l)) (input_same columns values needs)
   outputs_same columns (sum values ids out number operand) needs = ap (λ l. sums_by columns l ids ∷ []) (input_same columns values needs)
   outputs_same columns (sum_product first second ids out number) needs =
       ap₂ (λ a b. sums_by columns (products_of a b) ids ∷ []) (input_same columns first needs.0) (input_same columns second needs.1)
@@ -84,7 +92,7 @@ module _ (binding : Binding) (stored : Stored) where
   operands_same count columns (union left right out) needs has = has
   operands_same count columns (intersect left right out) needs has = has
   operands_same count columns (project values places out) needs has =
-      subst (λ (l : List ℕ). All (λ place. place < length l) (column_of columns places)) (input_same columns values needs) has
+      subst (λ (l : List ℕ). All (λ place. place < length l) (made_column columns places)) (input_same columns values needs) has
   operands_same count columns (semi_join probe keys out) needs has = has
   operands_same count columns (join probe keys left right) needs has = has
   operands_same count columns (group values ids extents) needs has = ap length (sym (input_same columns values needs)) ∙ has
@@ -102,7 +110,7 @@ module _ (binding : Binding) (stored : Stored) where
         record { numbered = met.0.numbered; operands = operands_same count columns operator needed met.0.operands },
         λ small.
             let rest = met.1 (large_same columns operator needed ∙ small) in (
-              subst (All IsShort) now rest.0,
+              subst (All IsShortList) now rest.0,
               met_same count (columns ++ outputs stored columns operator) operators (All-tail (ReadsNeeded binding) operator operators needs)
                   (subst (λ news. MetSoFar count data_needed (columns ++ news) operators) now rest.1),
             ),
@@ -121,6 +129,18 @@ module _ (binding : Binding) (stored : Stored) where
   tested_same combination tested needed =
       ap (λ (values : List ℕ). is_met (stored.texts tested.column) tested.test (slice_index values (row_of binding tested.column.table combination))) (needed_values binding stored tested.column needed)
 
+  tables_same : (joins : List JoinTo) → All (λ to. is_of binding to.key.table ≡ true) joins
+      → map (λ to. places (data_needed.rows to.key.table)) joins ≡ map (λ to. places (stored.rows to.key.table)) joins
+  tables_same [] all = refl
+  tables_same (to ∷ joins) all =
+      let P : JoinTo → Type 0 = λ to. is_of binding to.key.table ≡ true in
+      ap₂ (λ (a : List ℕ) (l : List (List ℕ)). a ∷ l) (ap places (rows_of binding stored to.key.table (All-head P to joins all))) (tables_same joins (All-tail P to joins all))
+
+  combinations_same : combinations binding data_needed ≡ combinations binding stored
+  combinations_same =
+      ap₂ (λ (tables : List (List ℕ)) (n : ℕ). flat_map (λ fact. map (λ rows. record { fact = fact; rows = rows }) (one_of_each tables)) (places n))
+      (tables_same binding.joins (keys_of binding)) (rows_of binding stored binding.fact (fact_of binding))
+
   pub rows_same : joined_rows binding data_needed ≡ joined_rows binding stored
   rows_same =
       let needs = needs_all binding in
@@ -132,7 +152,8 @@ module _ (binding : Binding) (stored : Stored) where
       (matched_same combination) binding.joins needs.joins)
       (all-same (λ tested. IsNeeded binding tested.column) (is_tested binding data_needed combination) (is_tested binding stored combination)
       (tested_same combination) binding.tests needs.tests))
-      (combinations binding stored)
+      (combinations binding data_needed)
+      ∙ ap (filter (λ combination. list_all (is_matched binding stored combination) binding.joins && list_all (is_tested binding stored combination) binding.tests)) combinations_same
 
   columns_of_same : (ids : List ColumnId) → All (IsNeeded binding) ids → map (value_in binding data_needed) ids ≡ map (value_in binding stored) ids
   columns_of_same [] needs = refl
@@ -176,11 +197,11 @@ module _ (binding : Binding) (stored : Stored) where
 
   -- # The law
   key_lists_same : (plan : Plan) → All (ReadsNeeded binding) plan.operators → key_lists data_needed plan ≡ key_lists stored plan
-  key_lists_same plan needs = ap (λ columns. map (column_of columns) plan.keys) (columns_same [] plan.operators needs)
+  key_lists_same plan needs = ap (λ columns. map (made_column columns) plan.keys) (columns_same [] plan.operators needs)
 
   sum_lists_same : (plan : Plan) → All (ReadsNeeded binding) plan.operators → map (sum_lists data_needed plan) plan.sums ≡ map (sum_lists stored plan) plan.sums
   sum_lists_same plan needs =
-      ap (λ columns. map (λ place. record { first = column_of columns place.first; second = option_map (column_of columns) place.second }) plan.sums) (columns_same [] plan.operators needs)
+      ap (λ columns. map (λ place. record { first = made_column columns place.first; second = option_map (made_column columns) place.second }) plan.sums) (columns_same [] plan.operators needs)
 
   pub means_same : (plan : Plan) → All (ReadsNeeded binding) plan.operators → MeansQuery binding data_needed plan → MeansQuery binding stored plan
   means_same plan needs means = record {

@@ -5,13 +5,13 @@ use Rattle.catalog_core.specs.Texts.{Text}
 use Rattle.definitions_operators.specs.Groups.{distinct}
 use Rattle.plan_core.specs.WholePlan.{plan_of}
 use Rattle.plan_core.proofs.PlanExamples.{schema_with, first, profit}
-use Rattle.plan_meaning.specs.StoredData.{Stored}
+use Rattle.plan_meaning.specs.StoredLists.{StoredLists}
 use Rattle.plan_meaning.specs.JoinedRows.{Combination, joined_rows}
 use Rattle.plan_meaning.specs.Columns.{columns_after}
 use Rattle.plan_meaning.specs.Law.{query_groups, query_sums}
 
 -- tables from their columns, with the texts of the columns that have texts
-abbrev stored_lists : List (List (List ℕ)) → (ℕ → ℕ → Option (List Text)) → Stored
+abbrev stored_lists : List (List (List ℕ)) → (ℕ → ℕ → Option (List Text)) → StoredLists
 stored_lists tables texts = record {
   rows = λ table. length (get_or (get_or tables table []) 0 []);
   values = λ id. get_or (get_or tables id.table []) id.column [];
@@ -35,7 +35,7 @@ orders =
     ∷ (1000 ∷ 500 ∷ 700 ∷ 900 ∷ [])
     ∷ []
 
-abbrev days : Stored
+abbrev days : StoredLists
 days = stored_lists (orders ∷ ((19930101 ∷ 19940101 ∷ []) ∷ (1993 ∷ 1994 ∷ []) ∷ []) ∷ []) no_texts
 
 days_joined : joined_rows first days ≡ row_with 0 (0 ∷ []) ∷ row_with 1 (0 ∷ []) ∷ []
@@ -53,7 +53,7 @@ days_sums : map (query_sums first days) first.sums ≡ record { first = 3500 ∷
 days_sums = refl
 
 -- the same with a key that repeats: the dimension is joined, and each of its rows counts
-abbrev days_twice : Stored
+abbrev days_twice : StoredLists
 days_twice = stored_lists (orders ∷ ((19930101 ∷ 19930101 ∷ 19940101 ∷ []) ∷ (1993 ∷ 1993 ∷ 1994 ∷ []) ∷ []) ∷ []) no_texts
 
 twice_joined : joined_rows first days_twice ≡ row_with 0 (0 ∷ []) ∷ row_with 0 (1 ∷ []) ∷ row_with 1 (0 ∷ []) ∷ row_with 1 (1 ∷ []) ∷ []
@@ -69,7 +69,7 @@ twice_sums : map (query_sums first days_twice) first.sums ≡ record { first = 7
 twice_sums = refl
 
 -- over no rows a sum is 0
-abbrev no_days : Stored
+abbrev no_days : StoredLists
 no_days = stored_lists (orders ∷ ([] ∷ [] ∷ []) ∷ []) no_texts
 
 no_days_sums : map (query_sums first no_days) first.sums ≡ record { first = 0 ∷ []; second = None } ∷ []
@@ -86,7 +86,7 @@ profit_texts table column =
     else (if table == 3 then (if column == 1 then Some regions else None)
     else (if table == 4 then (if column == 1 then Some (codes "MFGR#1" ∷ codes "MFGR#2" ∷ codes "MFGR#3" ∷ []) else None) else None))
 
-abbrev profits : Stored
+abbrev profits : StoredLists
 profits = stored_lists
     (((19980101 ∷ 19970101 ∷ 19970101 ∷ 19970101 ∷ 19980101 ∷ 19970101 ∷ 19980101 ∷ [])
     ∷ (1 ∷ 3 ∷ 2 ∷ 1 ∷ 1 ∷ 1 ∷ 3 ∷ [])

@@ -1,12 +1,12 @@
 -- The law of plans: what the columns of a bound query's plan are.
-use Rattle.std.specs.Prelude.{ℕ, ◌≡◌, ◌*◌, ◌≤◌, ◌<◌, true, false, List, [], ◌∷◌, map, length, slice_index, Option, Some, None, option_map}
-use Rattle.std.specs.List.{All, list_any}
+use Rattle.std.specs.Prelude.{ℕ, ◌≡◌, ◌*◌, ◌≤◌, false, List, [], ◌∷◌, map, length, nat_eq, slice_index, Option, Some, None, option_map}
+use Rattle.std.specs.List.{All, IsDistinct}
 use Rattle.definitions_operators.specs.Operators.{places}
 use Rattle.definitions_operators.specs.Groups.{groups_of, operand_of}
 use Rattle.catalog_core.specs.declared.columns.ColumnId.{ColumnId}
 use Rattle.catalog_core.specs.declared.schemas.Schema.{Schema}
 use Rattle.query_bind.specs.Binding.{Binding}
-use Rattle.query_bind.specs.LawfulBindings.{IsBinding}
+use Rattle.query_bind.specs.LawfulBindings.{IsBinding, from_tables}
 use Rattle.query_bind.specs.declared.bounds.SumOf.{SumOf}
 use Rattle.query_bind.specs.declared.bounds.SumOf.TheVariants as operand
 use Rattle.plan_core.specs.declared.plans.SumPlace.{SumPlace}
@@ -14,28 +14,28 @@ use Rattle.plan_core.specs.Plans.{Plan}
 use Rattle.plan_core.specs.Planner.{repeats}
 use Rattle.plan_core.specs.WholePlan.{plan_of}
 use Rattle.definitions_blocks.specs.Columns.{max_rows}
-use Rattle.plan_meaning.specs.StoredData.{Stored, value_at}
+use Rattle.plan_meaning.specs.StoredLists.{StoredLists}
 use Rattle.plan_meaning.specs.JoinedRows.{Combination, value_in, joined_rows}
 use Rattle.plan_meaning.specs.Columns.{columns_after, column, too_many_of}
-use Rattle.plan_meaning.specs.Conditions.{IsNeeded, MetSoFar, ReadsNeeded, is_counted, JoinsFirst}
+use Rattle.plan_meaning.specs.Operands.{MetSoFar}
+use Rattle.plan_meaning.specs.Shapes.{IsNeeded}
 
 -- # The data
 
 -- no two rows have one key
-abbrev pub HasDistinct : Stored → ColumnId → Type 0
-HasDistinct stored key =
-    (a b : ℕ) → a < stored.rows key.table → b < stored.rows key.table → value_at stored key a ≡ value_at stored key b → a ≡ b
+abbrev pub HasDistinct : StoredLists → ColumnId → Type 0
+HasDistinct stored key = IsDistinct nat_eq (stored.values key)
 
--- The data stand for a query: each column that it names has a value for each row of its table, no table is too long, and keys are
--- distinct unless the schema lets them repeat.
-pub record Stands (schema : Schema) (binding : Binding) (stored : Stored) : Type 0 where
+-- The data stand for a query: each column that it names has a value for each row of its table, no table of FROM is too long, and keys
+-- are distinct unless the schema lets them repeat.
+pub record StandsFor (schema : Schema) (binding : Binding) (stored : StoredLists) : Type 0 where
   pub lengths : (id : ColumnId) → IsNeeded binding id → length (stored.values id) ≡ stored.rows id.table
-  pub short : (table : ℕ) → stored.rows table ≤ max_rows
+  pub short : All (λ table. stored.rows table ≤ max_rows) (from_tables binding)
   pub keys : All (λ to. repeats schema to.key.table ≡ false → HasDistinct stored to.key) binding.joins
 
 -- # The query's answer, as numbers and codes
 
-abbrev pub group_columns : Binding → Stored → List (Combination → ℕ)
+abbrev pub group_columns : Binding → StoredLists → List (Combination → ℕ)
 group_columns binding stored = map (value_in binding stored) binding.groups
 
 -- the groups, by first occurrence among the joined rows; without GROUP BY there is one
@@ -43,11 +43,11 @@ abbrev pub groups_by : List (Combination → ℕ) → List Combination → List 
 groups_by [] rows = [] ∷ []
 groups_by (first ∷ later) rows = groups_of (first ∷ later) rows
 
-abbrev pub query_groups : Binding → Stored → List (List ℕ)
+abbrev pub query_groups : Binding → StoredLists → List (List ℕ)
 query_groups binding stored = groups_by (group_columns binding stored) (joined_rows binding stored)
 
 -- the sums of a column of the joined rows, one for each group
-abbrev pub group_sums : Binding → Stored → (Combination → ℕ) → List ℕ
+abbrev pub group_sums : Binding → StoredLists → (Combination → ℕ) → List ℕ
 group_sums binding stored summed =
     map (operand_of (group_columns binding stored) summed (joined_rows binding stored)) (query_groups binding stored)
 
@@ -56,7 +56,7 @@ pub record SumLists : Type 0 where
   pub first : List ℕ
   pub second : Option (List ℕ)
 
-abbrev pub query_sums : Binding → Stored → SumOf → SumLists
+abbrev pub query_sums : Binding → StoredLists → SumOf → SumLists
 query_sums binding stored (operand.Plain id) = record { first = group_sums binding stored (value_in binding stored id); second = None }
 query_sums binding stored (operand.Product left right) =
     record { first = group_sums binding stored (λ row. value_in binding stored left row * value_in binding stored right row); second = None }
@@ -66,10 +66,10 @@ query_sums binding stored (operand.Difference left right) =
 -- # The plan's columns
 
 -- the columns of a plan with these numbers
-abbrev pub key_lists : Stored → Plan → List (List ℕ)
+abbrev pub key_lists : StoredLists → Plan → List (List ℕ)
 key_lists stored plan = map (column stored plan.operators) plan.keys
 
-abbrev pub sum_lists : Stored → Plan → SumPlace → SumLists
+abbrev pub sum_lists : StoredLists → Plan → SumPlace → SumLists
 sum_lists stored plan place = record { first = column stored plan.operators place.first; second = option_map (column stored plan.operators) place.second }
 
 -- the tuple at a place of columns, and the tuples at the first n places
@@ -81,7 +81,7 @@ side_by_side n columns = map (tuple_at columns) (places n)
 
 -- What a plan's columns mean, over stored data. The columns of keys, side by side, are the groups, and the columns of sums are the
 -- groups' sums.
-pub record MeansQuery (binding : Binding) (stored : Stored) (plan : Plan) : Type 0 where
+pub record MeansQuery (binding : Binding) (stored : StoredLists) (plan : Plan) : Type 0 where
   pub numbered : length (columns_after stored [] plan.operators) ≡ plan.columns
   pub met : MetSoFar (length (joined_rows binding stored)) stored [] plan.operators
   pub keys : side_by_side (length (query_groups binding stored)) (key_lists stored plan) ≡ query_groups binding stored
@@ -90,19 +90,10 @@ pub record MeansQuery (binding : Binding) (stored : Stored) (plan : Plan) : Type
 
 -- Over all data that stand.
 abbrev pub PlanMeansQuery : Schema → Binding → Type 0
-PlanMeansQuery schema binding = IsBinding schema binding → (stored : Stored) → Stands schema binding stored → MeansQuery binding stored (plan_of binding schema)
-
--- The plan reads columns that the binding names, groups or sums something, and joins before it sums.
-pub record IsOrderly (binding : Binding) (plan : Plan) : Type 0 where
-  pub reads : All (ReadsNeeded binding) plan.operators
-  pub counted : list_any is_counted plan.operators ≡ true
-  pub joins : JoinsFirst plan.operators
-
-abbrev pub PlanIsOrderly : Schema → Binding → Type 0
-PlanIsOrderly schema binding = IsBinding schema binding → IsOrderly binding (plan_of binding schema)
+PlanMeansQuery schema binding = IsBinding schema binding → (stored : StoredLists) → StandsFor schema binding stored → MeansQuery binding stored (plan_of binding schema)
 
 -- If no dimension's keys may repeat, no Join is too large.
 abbrev pub PlanFits : Schema → Binding → Type 0
 PlanFits schema binding =
-    IsBinding schema binding → All (λ to. repeats schema to.key.table ≡ false) binding.joins → (stored : Stored) → Stands schema binding stored
+    IsBinding schema binding → All (λ to. repeats schema to.key.table ≡ false) binding.joins → (stored : StoredLists) → StandsFor schema binding stored
     → too_many_of stored (plan_of binding schema).operators ≡ None

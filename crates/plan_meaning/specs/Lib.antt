@@ -1,5 +1,6 @@
-pub mod StoredData
+pub mod StoredLists
 pub mod JoinedRows
 pub mod Columns
-pub mod Conditions
+pub mod Operands
+pub mod Shapes
 pub mod Law

@@ -2,7 +2,8 @@
 
 ghost use Rattle.catalog_core.specs.declared.schemas.Schema.{Schema};
 ghost use Rattle.query_bind.specs.Binding.{Binding};
-ghost use Rattle.plan_meaning.specs.Law.{PlanMeansQuery, PlanIsOrderly, PlanFits};
+ghost use Rattle.plan_meaning.specs.Law.{PlanMeansQuery, PlanFits};
+ghost use Rattle.plan_meaning.specs.Shapes.{PlanIsOrderly};
 
 /// The columns `keys` of a plan, side by side, are the groups of the joined rows by first occurrence, and the columns `sums` are the sums of
 /// these groups. Each operator has what it needs, up to the first Join that is too large.
@@ -10,7 +11,8 @@ pub fn plan_means_query()
     ensures { (schema : Schema) (binding : Binding) → PlanMeansQuery schema binding }
 {}
 
-/// A plan reads columns that its query names, groups or sums something, and joins before it sums.
+/// The shape of a plan: which base columns it reads, how its columns are numbered, where its keys and sums stand, and that no Join comes after a
+/// sum.
 pub fn plan_is_orderly()
     ensures { (schema : Schema) (binding : Binding) → PlanIsOrderly schema binding }
 {}

@@ -7,13 +7,13 @@ use Rattle.query_bind.specs.Binding.{Tested}
 use Rattle.plan_core.specs.Meaning.{meets, code_meets}
 
 -- how many rows each table has, the numbers or codes of each column, and the texts that the codes of a text column stand for
-pub record Stored : Type 0 where
+pub record StoredLists : Type 0 where
   pub rows : ℕ → ℕ
   pub values : ColumnId → List ℕ
   pub texts : ColumnId → Option (List Text)
 
 -- the number or code of a column at a row
-abbrev pub value_at : Stored → ColumnId → ℕ → ℕ
+abbrev pub value_at : StoredLists → ColumnId → ℕ → ℕ
 value_at stored column row = slice_index (stored.values column) row
 
 -- whether a number, or the text of a code, meets a test
@@ -22,9 +22,9 @@ is_met None test value = meets test (of_number value)
 is_met (Some texts) test value = code_meets texts test value
 
 -- whether a column meets a test at a row
-abbrev pub accepts : Stored → ColumnId → Test → ℕ → Bool
+abbrev pub accepts : StoredLists → ColumnId → Test → ℕ → Bool
 accepts stored column test row = is_met (stored.texts column) test (value_at stored column row)
 
 -- whether a condition holds at a row of its table
-abbrev pub holds : Stored → Tested → ℕ → Bool
+abbrev pub holds : StoredLists → Tested → ℕ → Bool
 holds stored tested row = accepts stored tested.column tested.test row
