@@ -418,7 +418,7 @@ module _ {R : Type 0} (same : R → R → Bool) (o : IsEquivalence same) where
       get_or-map column rows (place_in same rows d) d 0 within ∙ sym (alike d (get_or rows (place_in same rows d) d) (passes_at_first (same d) rows d within)))
       (distinct same rows) (distinct-among same o rows))
 
-same_tuple-true : (xs ys : List ℕ) → same_tuple xs ys ≡ true → xs ≡ ys
+pub same_tuple-true : (xs ys : List ℕ) → same_tuple xs ys ≡ true → xs ≡ ys
 same_tuple-true [] [] h = refl
 same_tuple-true [] (y ∷ ys) h = absurd (false≢true h)
 same_tuple-true (x ∷ xs) [] h = absurd (false≢true h)

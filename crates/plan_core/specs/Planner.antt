@@ -82,7 +82,7 @@ pub record Read : Type 0 where
   pub steps : Steps
   pub input : Input
 
--- the values of a input.Base column at a position list
+-- the values of a base column at a position list
 abbrev pub add_values : Steps → ColumnId → Option ℕ → Read
 add_values steps column None = record { steps = steps; input = input.Base column }
 add_values steps column (Some list) = record { steps = with_one steps (project (input.Base column) list); input = input.Made (steps.columns + 1) }

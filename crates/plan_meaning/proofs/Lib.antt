@@ -19,5 +19,6 @@ pub mod StepLaws
 pub mod OrderLaws
 pub mod NumberLaws
 pub mod LabelLaws
+pub mod GroupsLaws
 pub mod LawProofs
 pub mod WorkedExamples

@@ -1,8 +1,8 @@
 -- The law of plans: what the columns of a bound query's plan are.
-use Rattle.std.specs.Prelude.{ℕ, ◌≡◌, ◌*◌, ◌≤◌, false, List, [], ◌∷◌, map, length, nat_eq, slice_index, Option, Some, None, option_map}
-use Rattle.std.specs.List.{All, IsDistinct}
+use Rattle.std.specs.Prelude.{ℕ, ◌≡◌, ◌*◌, ◌≤◌, false, List, [], ◌∷◌, map, length, nat_eq, slice_index, Option, Some, None, option_map, Bool, get_or}
+use Rattle.std.specs.List.{All, Contains, IsDistinct}
 use Rattle.definitions_operators.specs.Operators.{places}
-use Rattle.definitions_operators.specs.Groups.{groups_of, operand_of}
+use Rattle.definitions_operators.specs.Groups.{first_places, tuple_of, same_tuple, groups_of, operand_of}
 use Rattle.catalog_core.specs.declared.columns.ColumnId.{ColumnId}
 use Rattle.catalog_core.specs.declared.schemas.Schema.{Schema}
 use Rattle.query_bind.specs.Binding.{Binding}
@@ -45,6 +45,22 @@ groups_by (first ∷ later) rows = groups_of (first ∷ later) rows
 
 abbrev pub query_groups : Binding → StoredLists → List (List ℕ)
 query_groups binding stored = groups_by (group_columns binding stored) (joined_rows binding stored)
+
+-- the tuple of the row at a place
+abbrev pub tuple_at_row : List (Combination → ℕ) → List Combination → ℕ → List ℕ
+tuple_at_row columns rows place = get_or (map (tuple_of columns) rows) place []
+
+-- What groups are: no two are equal, each row has its own among them, and they stand as they first occur.
+abbrev pub are_alike : List (Combination → ℕ) → List Combination → ℕ → ℕ → Bool
+are_alike columns rows a b = same_tuple (tuple_at_row columns rows a) (tuple_at_row columns rows b)
+
+pub record AreDistinctGroups (columns : List (Combination → ℕ)) (rows : List Combination) (groups : List (List ℕ)) : Type 0 where
+  pub differ : IsDistinct same_tuple groups
+  pub all : All (λ row. Contains groups (tuple_of columns row)) rows
+  pub first : groups ≡ map (tuple_at_row columns rows) (first_places (are_alike columns rows) (length rows))
+
+abbrev pub GroupsAreDistinct : Type 0
+GroupsAreDistinct = (columns : List (Combination → ℕ)) (rows : List Combination) → AreDistinctGroups columns rows (groups_of columns rows)
 
 -- the sums of a column of the joined rows, one for each group
 abbrev pub group_sums : Binding → StoredLists → (Combination → ℕ) → List ℕ

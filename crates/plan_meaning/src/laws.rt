@@ -2,7 +2,7 @@
 
 ghost use Rattle.catalog_core.specs.declared.schemas.Schema.{Schema};
 ghost use Rattle.query_bind.specs.Binding.{Binding};
-ghost use Rattle.plan_meaning.specs.Law.{PlanMeansQuery, PlanFits};
+ghost use Rattle.plan_meaning.specs.Law.{PlanMeansQuery, PlanFits, GroupsAreDistinct};
 ghost use Rattle.plan_meaning.specs.Shapes.{PlanIsOrderly};
 
 /// The columns `keys` of a plan, side by side, are the groups of the joined rows by first occurrence, and the columns `sums` are the sums of
@@ -20,4 +20,9 @@ pub fn plan_is_orderly()
 /// If no dimension's keys may repeat, no Join of a plan is too large.
 pub fn plan_fits()
     ensures { (schema : Schema) (binding : Binding) → PlanFits schema binding }
+{}
+
+/// No two groups are equal, each row has its own group, and groups stand as they first occur.
+pub fn groups_are_distinct()
+    ensures { GroupsAreDistinct }
 {}

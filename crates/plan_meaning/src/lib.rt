@@ -4,4 +4,4 @@
 
 mod laws;
 
-pub use laws::{plan_fits, plan_is_orderly, plan_means_query};
+pub use laws::{groups_are_distinct, plan_fits, plan_is_orderly, plan_means_query};
