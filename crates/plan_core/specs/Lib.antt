@@ -6,3 +6,4 @@ pub mod WholePlan
 pub mod Views
 pub mod Sizes
 pub mod Explained
+pub mod Strategies
