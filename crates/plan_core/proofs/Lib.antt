@@ -1,5 +1,7 @@
 mod RangeLaws
 mod SizeLemmas
 mod ChoiceLemmas
+mod StrategyLemmas
+mod StrategyLaws
 pub mod WorkedExamples
 pub mod PlanExamples

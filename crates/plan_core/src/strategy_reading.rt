@@ -1,7 +1,8 @@
 //! The strategy that a text asks for: the top level, then the formats of columns, then the forms of operators, then the operators that do
 //! not take their forms.
 
-ghost use Rattle.std.specs.Prelude.{◌≡◌, ◌≢◌, ◌≤◌, ◌<◌, ◌×◌, ◌∷◌, [], ℕ, codes, decimal, length, map, option_map, IfOk, IfErr, IfSome, IfNone, OnOk, Ok, Err};
+ghost use Rattle.std.specs.Prelude.{◌≡◌, ◌≢◌, ◌<◌, ◌^◌, ◌∷◌, [], ℕ, codes, decimal, length, map, option_map, IfOk, IfErr, IfSome, IfNone, OnOk, Ok, Err, Some, None, if◌then◌else◌};
+ghost use Rattle.stream_core.specs.Names.{is_name};
 ghost use Rattle.block_core.specs.declared.formats.Format.TheVariants as format;
 ghost use Rattle.block_core.specs.declared.formats.FormatChoice.TheVariants as choice;
 ghost use Rattle.catalog_core.specs.Schemas.{meaning, one_of, format_words};
@@ -22,19 +23,28 @@ use toml::{Table, Value};
 
 // ---- what a key is, and what it holds
 
+/// The key as a name, where it has the form of one.
+fn name_in(key: &str) -> Option<Name>
+    ensures { result ≡ (if is_name key.now then Some key.now else None) }
+{
+    if is_name(key) { Name::of(key) } else { None }
+}
+
 fn unknown(key: &str) -> StrategyError
     ensures { result ≡ unknown key.now }
 {
-    let name = if is_name(key) { Name::of(key) } else { None };
-    StrategyError::Unknown { name }
+    StrategyError::Unknown { name: name_in(key) }
 }
 
 /// The number that is written in decimal digits without leading zeros, from 1 on.
 fn number_of(digits: &str) -> Option<u64>
     ensures number { IfSome result (λ number. (0 < number) × (digits.now ≡ decimal number)) }
+    ensures small { IfSome result (λ number. number < 2 ^ 64) }
     ensures none { IfNone result ((number : ℕ) → 0 < number → number < 2 ^ 64 → digits.now ≢ decimal number) }
 {
-    let number = digits.parse::<u64>().ok()?;
+    let Ok(number) = digits.parse::<u64>() else {
+        return None;
+    };
     if number == 0 {
         return None;
     }
@@ -52,7 +62,12 @@ fn place_named(letter: char, count: usize, key: &str) -> Option<usize>
     ensures place { result ≡ place_named (letter ∷ []) count key.now }
     ensures within { IfSome result (λ place. place < count) }
 {
-    let number = number_of(key.strip_prefix(letter)?)?;
+    let Some(digits) = key.strip_prefix(letter) else {
+        return None;
+    };
+    let Some(number) = number_of(digits) else {
+        return None;
+    };
     if number > count as u64 {
         return None;
     }
@@ -220,7 +235,8 @@ fn default_forms(alloc: Global, default: Form, operators: &[Operator]) -> Result
 }
 
 fn forms_in(alloc: Global, operators: &[Operator], keys: &Table) -> Result<List<Form>, StrategyError>
-    ensures { Answers StrategyError.Memory (forms_in (map operator_view operators.now) (table_view keys.now)) result }
+    ensures forms { Answers StrategyError.Memory (forms_in (map operator_view operators.now) (table_view keys.now)) result }
+    ensures count { IfOk result (λ forms. length forms ≡ length operators.now) }
 {
     let mut forms = default_forms(alloc, default_form(keys), operators)?;
     if let Some(table) = table_at(keys, "forms") {

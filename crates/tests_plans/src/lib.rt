@@ -7,6 +7,10 @@
 #[cfg(test)]
 mod plans;
 #[cfg(test)]
+mod strategies;
+#[cfg(test)]
+mod strategy_cases;
+#[cfg(test)]
 mod tables;
 #[cfg(test)]
 mod texts;
