@@ -90,7 +90,7 @@ pub takes_at : (operators : List CodeOperator) (forms : List Form) (place : ℕ)
     → place < length operators → length forms ≡ length operators → operator ≡ get_or operators place operator
     → takes_form (operator_view operator) (get_or forms place d) ≡ takes
     → each_takes (place + 1) (drop place (map operator_view operators)) (drop place forms)
-      ≡ cond takes (each_takes (place + 1 + 1) (drop (place + 1) (map operator_view operators)) (drop (place + 1) forms)) (Err (refusal.NoSpecial (place + 1)))
+    ≡ cond takes (each_takes (place + 1 + 1) (drop (place + 1) (map operator_view operators)) (drop (place + 1) forms)) (Err (refusal.NoSpecial (place + 1)))
 takes_at operators forms place operator d takes within same is takes_is =
     ap (λ rest. each_takes (place + 1) rest (drop place forms)) (items_from operator_view operators place operator within is)
     ∙ ap (λ rest. each_takes (place + 1) (operator_view operator ∷ drop (place + 1) (map operator_view operators)) rest) (drop_more forms place d (rw same within))

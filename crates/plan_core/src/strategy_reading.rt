@@ -187,7 +187,11 @@ fn put_formats(formats: &mut [FormatChoice], table: &Table) -> Result<(), Strate
     Ok(())
 }
 
-fn formats_in(alloc: Global, columns: u32, keys: &Table) -> Result<List<FormatChoice>, StrategyError>
+fn formats_in(
+    alloc: Global,
+    columns: u32,
+    keys: &Table,
+) -> Result<List<FormatChoice>, StrategyError>
     ensures { Answers StrategyError.Memory (formats_in columns (table_view keys.now)) result }
 {
     let mut formats = vec![in alloc; default_format(keys); columns as usize]?;
@@ -224,7 +228,11 @@ fn put_forms(forms: &mut [Form], table: &Table) -> Result<(), StrategyError>
 }
 
 /// The default form of each operator.
-fn default_forms(alloc: Global, default: Form, operators: &[Operator]) -> Result<Vec<Form>, AllocError>
+fn default_forms(
+    alloc: Global,
+    default: Form,
+    operators: &[Operator],
+) -> Result<Vec<Form>, AllocError>
     ensures { IfOk result (λ forms. forms.items ≡ map (form_or_fly default) (map operator_view operators.now)) }
 {
     let mut forms = Vec::new(alloc);
@@ -234,7 +242,11 @@ fn default_forms(alloc: Global, default: Form, operators: &[Operator]) -> Result
     Ok(forms)
 }
 
-fn forms_in(alloc: Global, operators: &[Operator], keys: &Table) -> Result<List<Form>, StrategyError>
+fn forms_in(
+    alloc: Global,
+    operators: &[Operator],
+    keys: &Table,
+) -> Result<List<Form>, StrategyError>
     ensures forms { Answers StrategyError.Memory (forms_in (map operator_view operators.now) (table_view keys.now)) result }
     ensures count { IfOk result (λ forms. length forms ≡ length operators.now) }
 {

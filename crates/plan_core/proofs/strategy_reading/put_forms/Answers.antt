@@ -8,9 +8,12 @@ use Rattle.plan_core.proofs.strategy_reading.put_forms.Goals as goal
 
 pub loop-key-init : goal.loop-key-init
 loop-key-init c =
-    let whole : c.into_iter-key-iterator.result ≡ c.args.table.now.entries = c.into_iter-key-iterator.ensures.into_iter_gives ∙ c.iter-key-items.ensures.rest in
-    (tt, tt, ap (λ entries. chosen (codes "o") form_words entries c.args.forms.now)
-        (in_order-view c.args.table.now.entries c.iter-key-items.ensures.ordered ∙ sym (ap (map entry_view) whole)))
+    let whole : c.into_iter-key-iterator.result ≡ c.args.table.now.entries = c.into_iter-key-iterator.ensures.into_iter_gives ∙ c.iter-key-items.ensures.rest in (
+      tt,
+      tt,
+      ap (λ entries. chosen (codes "o") form_words entries c.args.forms.now)
+          (in_order-view c.args.table.now.entries c.iter-key-items.ensures.ordered ∙ sym (ap (map entry_view) whole)),
+    )
 
 pub returns-in_default-clause-refused : goal.returns-in_default-clause-refused
 returns-in_default-clause-refused c =
@@ -20,7 +23,7 @@ returns-in_default-clause-refused c =
     let none : choice_in (codes "o") form_words (length c.loop-key.forms) (entry_view entry) ≡ None =
     chose (codes "o") form_words (length c.loop-key.forms) (length c.args.forms.now) (string_bytes c.in-Some.key.now) c.as_str.result.now (view c.in-Some.value.now) None c.loop-key.auto.forms c.as_str.ensures.value (sym c.form_choice.ensures.choice ∙ c.in_default.is) in
     let stops = left ∙ ap (λ entries. chosen (codes "o") form_words (map entry_view entries) c.loop-key.forms) iter
-        ∙ chosen_stops (codes "o") form_words (entry_view entry) (map entry_view c.next.new.self) c.loop-key.forms none in
+    ∙ chosen_stops (codes "o") form_words (entry_view entry) (map entry_view c.next.new.self) c.loop-key.forms none in
     rw (← c.as_str-in_default.ensures.value, ← c.unknown.ensures) at stops
 
 pub loop-key-preserved : goal.loop-key-preserved
@@ -29,10 +32,13 @@ loop-key-preserved c =
     let entry : Entry = (c.in-Some.key.now, c.in-Some.value.now) in
     let iter : c.loop-key.key-iterator ≡ entry ∷ c.next.new.self = grind (arith, common_steps) in
     let some : choice_in (codes "o") form_words (length c.loop-key.forms) (entry_view entry) ≡ Some (c.in-Some-form_choice.place, c.in-Some-form_choice.form) =
-    chose (codes "o") form_words (length c.loop-key.forms) (length c.args.forms.now) (string_bytes c.in-Some.key.now) c.as_str.result.now (view c.in-Some.value.now) (Some (c.in-Some-form_choice.place, c.in-Some-form_choice.form)) c.loop-key.auto.forms c.as_str.ensures.value (sym c.form_choice.ensures.choice ∙ c.in-Some-form_choice.is) in
-    (tt, tt, left ∙ ap (λ entries. chosen (codes "o") form_words (map entry_view entries) c.loop-key.forms) iter
-        ∙ chosen_goes (codes "o") form_words (entry_view entry) (map entry_view c.next.new.self) c.loop-key.forms
-          (c.in-Some-form_choice.place, c.in-Some-form_choice.form) some)
+    chose (codes "o") form_words (length c.loop-key.forms) (length c.args.forms.now) (string_bytes c.in-Some.key.now) c.as_str.result.now (view c.in-Some.value.now) (Some (c.in-Some-form_choice.place, c.in-Some-form_choice.form)) c.loop-key.auto.forms c.as_str.ensures.value (sym c.form_choice.ensures.choice ∙ c.in-Some-form_choice.is) in (
+      tt,
+      tt,
+      left ∙ ap (λ entries. chosen (codes "o") form_words (map entry_view entries) c.loop-key.forms) iter
+          ∙ chosen_goes (codes "o") form_words (entry_view entry) (map entry_view c.next.new.self) c.loop-key.forms
+          (c.in-Some-form_choice.place, c.in-Some-form_choice.form) some,
+    )
 
 pub returns-clause-forms : goal.returns-clause-forms
 returns-clause-forms c =
