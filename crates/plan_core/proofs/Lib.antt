@@ -5,3 +5,4 @@ mod StrategyLemmas
 mod StrategyLaws
 pub mod WorkedExamples
 pub mod PlanExamples
+pub mod StrategyExamples
