@@ -1,5 +1,6 @@
 -- The values of a test as a range.
-use Rattle.std.specs.Prelude.{ℕ, ◌+◌, ◌^◌, Bool, true, false, ◌&&◌, not, nat_lt, List, length, Option, Some, None}
+use Rattle.std.specs.Prelude.{ℕ, ◌+◌, ◌^◌, Bool, true, false, List, length, Option, Some, None}
+use Rattle.definitions_operators.specs.Operators.{is_within}
 use Rattle.definitions_queries.specs.Queries.{Literal, of_number, of_text, Test, equal, below, at_most, above, at_least, between, one_of}
 use Rattle.catalog_core.specs.Texts.{Text}
 use Rattle.catalog_core.specs.Dictionaries.{rank_below, rank_through}
@@ -9,7 +10,7 @@ use Rattle.plan_core.specs.declared.ranges.CodeRange.{CodeRange}
 
 -- from `low` to `high`, both included
 abbrev pub is_in : CodeRange → ℕ → Bool
-is_in range number = not (nat_lt number range.low) && not (nat_lt range.high number)
+is_in range number = is_within range.low range.high number
 
 -- a column has codes if it has a dictionary, and else numbers
 abbrev pub kind_with : Option (List Text) → Kind
