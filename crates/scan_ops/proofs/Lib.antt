@@ -1,2 +1,3 @@
 pub mod EmitLaws
 pub mod BlockPlaceLaws
+pub mod ProjectLaws

@@ -9,6 +9,6 @@ mod projection;
 mod selection;
 
 pub use laws::one_position_list;
-pub use projection::project;
 pub use place_tests::{PlaceTest, emit_places};
+pub use projection::{project, project_fly};
 pub use selection::{select, select_fly};

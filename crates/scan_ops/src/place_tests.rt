@@ -17,13 +17,7 @@ pub trait PlaceTest {
 
     /// Writes the places of the values that pass to the front of `places`, and says how many they are. The first value has the
     /// place `first`.
-    fn mark<G>(
-        &self,
-        values: &[u64],
-        first: u64,
-        places: &mut [u64],
-        steps: &mut Steps<G>,
-    ) -> usize
+    fn mark<G>(&self, values: &[u64], first: u64, places: &mut [u64], steps: &mut Steps<G>) -> usize
         requires room { length values.now ≤ length places.old }
         requires fits { first + length values.now < 2 ^ 64 }
         ensures count { result ≤ length values.now }

@@ -17,11 +17,12 @@ extend-requires g c =
     let within : number * block_values ≤ length values = omega (arith, c.loop-number-test.true, c.div_ceil-number-end.ensures, c.count-count.ensures.count) in
     let block : c.as_slice.result.now ≡ block_at values number = c.as_slice.ensures.values ∙ c.block.ensures.values ∙ ap (λ (l : List ℕ). block_at l number) c.loop-number.invariant.kept in
     let is : IsPiece before piece whole =
-        places-piece test number values piece within (c.mark-kept.ensures.places ∙ ap (λ (l : List ℕ). map (λ place. number * block_values + place) (passing_places test l)) block) in
-    (before,
-     c.loop-number.invariant.emitted,
-     piece_few before piece whole is (omega (arith, places-few test values, c.count-count.ensures.few)),
-     piece_holds g.O.Emit.scope g.met.O.Emit.scope_law (g.O.Emit.frame c.loop-number.out) (g.O.Emit.frame c.args.out.now) c.loop-number.invariant.frame before piece whole is c.requires.in_scope)
+    places-piece test number values piece within (c.mark-kept.ensures.places ∙ ap (λ (l : List ℕ). map (λ place. number * block_values + place) (passing_places test l)) block) in (
+      before,
+      c.loop-number.invariant.emitted,
+      piece_few before piece whole is (omega (arith, places-few test values, c.count-count.ensures.few)),
+      piece_holds g.O.Emit.scope g.met.O.Emit.scope_law (g.O.Emit.frame c.loop-number.out) (g.O.Emit.frame c.args.out.now) c.loop-number.invariant.frame before piece whole is c.requires.in_scope,
+    )
 
 pub returns-in_err-extend-clause-err : goal.returns-in_err-extend-clause-err
 returns-in_err-extend-clause-err g c =
@@ -34,7 +35,7 @@ returns-in_err-extend-clause-err g c =
     let within : number * block_values ≤ length values = omega (arith, c.loop-number-test.true, c.div_ceil-number-end.ensures, c.count-count.ensures.count) in
     let block : c.as_slice.result.now ≡ block_at values number = c.as_slice.ensures.values ∙ c.block.ensures.values ∙ ap (λ (l : List ℕ). block_at l number) c.loop-number.invariant.kept in
     let is : IsPiece before piece whole =
-        places-piece test number values piece within (c.mark-kept.ensures.places ∙ ap (λ (l : List ℕ). map (λ place. number * block_values + place) (passing_places test l)) block) in
+    places-piece test number values piece within (c.mark-kept.ensures.places ∙ ap (λ (l : List ℕ). map (λ place. number * block_values + place) (passing_places test l)) block) in
     let taken = c.in_err-extend.ensures.err in
     on_err c.from_residual.result
     (piece_prefix (g.O.Emit.pushed c.extend.new.self) taken.0 before piece whole is (taken.1 before c.loop-number.invariant.emitted))
@@ -50,9 +51,9 @@ returns-in_err-extend-clause-sure g c = λ roomy.
     let within : number * block_values ≤ length values = omega (arith, c.loop-number-test.true, c.div_ceil-number-end.ensures, c.count-count.ensures.count) in
     let block : c.as_slice.result.now ≡ block_at values number = c.as_slice.ensures.values ∙ c.block.ensures.values ∙ ap (λ (l : List ℕ). block_at l number) c.loop-number.invariant.kept in
     let is : IsPiece before piece whole =
-        places-piece test number values piece within (c.mark-kept.ensures.places ∙ ap (λ (l : List ℕ). map (λ place. number * block_values + place) (passing_places test l)) block) in
+    places-piece test number values piece within (c.mark-kept.ensures.places ∙ ap (λ (l : List ℕ). map (λ place. number * block_values + place) (passing_places test l)) block) in
     absurd (false≢true (c.in_err-extend.ensures.sure before c.loop-number.invariant.emitted
-      (piece_holds g.O.Emit.room g.met.O.Emit.room_law (g.O.Emit.frame c.loop-number.out) (g.O.Emit.frame c.args.out.now) c.loop-number.invariant.frame before piece whole is roomy)))
+    (piece_holds g.O.Emit.room g.met.O.Emit.room_law (g.O.Emit.frame c.loop-number.out) (g.O.Emit.frame c.args.out.now) c.loop-number.invariant.frame before piece whole is roomy)))
 
 pub returns-in_err-extend-clause-steps : goal.returns-in_err-extend-clause-steps
 returns-in_err-extend-clause-steps g c =
@@ -76,7 +77,7 @@ loop-number-preserved g c =
     let within : number * block_values ≤ length values = omega (arith, c.loop-number-test.true, c.div_ceil-number-end.ensures, c.count-count.ensures.count) in
     let block : c.as_slice.result.now ≡ block_at values number = c.as_slice.ensures.values ∙ c.block.ensures.values ∙ ap (λ (l : List ℕ). block_at l number) c.loop-number.invariant.kept in
     let next : before ++ piece ≡ passing_places test (take ((number + 1) * block_values) values) =
-        places-next test number values piece within (c.mark-kept.ensures.places ∙ ap (λ (l : List ℕ). map (λ place. number * block_values + place) (passing_places test l)) block) in
+    places-next test number values piece within (c.mark-kept.ensures.places ∙ ap (λ (l : List ℕ). map (λ place. number * block_values + place) (passing_places test l)) block) in
     let here : cost * length c.as_slice.result.now ≡ cost * length (block_at values number) = ap (λ (l : List ℕ). cost * length l) block in
     let after : c.mark-kept.new.steps ≤ c.loop-number.steps + 1 + cost * length (block_at values number) = omega (arith, c.mark-kept.ensures.steps, c.block.ensures.steps) in
     record {
