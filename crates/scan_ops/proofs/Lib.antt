@@ -1,3 +1,4 @@
 pub mod EmitLaws
 pub mod BlockPlaceLaws
 pub mod ProjectLaws
+pub mod SetLaws

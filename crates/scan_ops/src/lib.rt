@@ -1,4 +1,4 @@
-//! Selections and projections over columns.
+//! Selections and projections over columns, and sets of positions.
 //!
 //! A position list is a rising list of rows, counted from 0. The plain forms here work on whole slices.
 #![tactic(auto)]
@@ -7,8 +7,10 @@ mod laws;
 mod place_tests;
 mod projection;
 mod selection;
+mod sets;
 
 pub use laws::one_position_list;
 pub use place_tests::{PlaceTest, emit_places};
 pub use projection::{project, project_fly};
 pub use selection::{select, select_fly};
+pub use sets::{intersect, union_of};

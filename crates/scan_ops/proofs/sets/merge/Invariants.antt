@@ -1,0 +1,19 @@
+-- what is written, and what the numbers that are left give, are the whole
+use Rattle.std.proofs.Common.{◌≡◌, ℕ, ◌+◌, ◌-◌, ◌≤◌, List, ◌++◌, take, drop, length}
+use Rattle.definitions_operators.specs.Operators.{union}
+use Rattle.definitions_operators.specs.Positions.{Rises}
+use Rattle.scan_ops.proofs.sets.merge.Given as goal
+
+abbrev pub invariant-loop-used : goal.invariant-loop-used
+invariant-loop-used l = record {
+  left : l.used.left ≤ length l.left;
+  right : l.used.right ≤ length l.right;
+  kept : l.used.kept ≤ length l.out;
+  few : l.used.kept ≤ l.used.left + l.used.right;
+  room : length l.out ≡ length l.initial.out;
+  whole : (later others : List ℕ) → Rises (l.left ++ later) → Rises (l.right ++ others)
+      → union (l.left ++ later) (l.right ++ others) ≡ take l.used.kept l.out ++ union (drop l.used.left l.left ++ later) (drop l.used.right l.right ++ others);
+}
+
+abbrev pub decreases-loop-used : goal.decreases-loop-used
+decreases-loop-used l = (length l.left - l.used.left) + (length l.right - l.used.right)
