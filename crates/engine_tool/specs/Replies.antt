@@ -14,6 +14,7 @@ use Rattle.engine_tool.specs.Answers.{answer_text}
 use Rattle.command_words.specs.Commands as command
 use Rattle.command_words.specs.Commands.{Command}
 use Rattle.command_words.specs.Words.{help_text}
+use Rattle.query_commands.specs.Explaining.{SaysNoQuery, ExplainReply}
 use Rattle.table_commands.specs.Checking.{CheckReply}
 use Rattle.table_commands.specs.Databases.{TableStep}
 use Rattle.table_commands.specs.declared.databases.Found.{Found}
@@ -101,7 +102,7 @@ Means (command.import table) files text = ImportReply files table text
 Means (command.export table) files text = Unchanged files (ExportReply files table)
 Means (command.reformat table) files text = ReformatReply files table
 Means command.check files text = Unchanged files (CheckReply files)
-Means command.explain files text = λ end. ⊥
+Means command.explain files text = Unchanged files (ExplainReply files text)
 Means command.help files text = Unchanged files (Gives (Ok help_text))
 Means (command.query options) files text = Unchanged files (QueryReply files text)
 Means (command.demo options) files text = λ end. ⊥
@@ -127,7 +128,7 @@ RefusesText (Some (command.import table)) text = ⊥
 RefusesText (Some (command.export table)) text = ⊥
 RefusesText (Some (command.reformat table)) text = ⊥
 RefusesText (Some command.check) text = ⊥
-RefusesText (Some command.explain) text = ⊥
+RefusesText (Some command.explain) text = SaysNoQuery text
 RefusesText (Some command.help) text = ⊥
 RefusesText (Some (command.query options)) text = (asked : Query) → QueryOf text (Ok asked) → ⊥
 RefusesText (Some (command.demo options)) text = ⊥

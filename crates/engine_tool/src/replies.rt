@@ -17,6 +17,7 @@ use crate::loading::loaded_of;
 use crate::sums::answer_of;
 use crate::text::{SumQuery, read_query};
 use command_words::{Command, QueryOptions, WordsError, command_of, help_text};
+use query_commands::explain_answer;
 use std::alloc::Global;
 use stream_core::{Bytes, List, ReadError, Source, Store, read_all};
 use table_commands::{
@@ -89,6 +90,18 @@ fn query<S: Store, I: Source>(
     answer(alloc, store, &query)
 }
 
+/// The answer to `explain`: a text that says no query is refused before the schema is loaded.
+fn explain<S: Store, I: Source>(
+    alloc: Global,
+    store: &mut S,
+    input: &mut I,
+) -> Result<Bytes, Stop>
+    ensures { Did commands.explain (inside (S.files store.old) (S.faults store.old) (I.left input.old) (I.faults input.old))
+        (inside (S.files store.new) (S.faults store.new) (I.left input.new) (I.faults input.new)) result }
+{
+    explain_answer(alloc, store, input)
+}
+
 /// The answer to `check`, which reads no input.
 fn check<S: Store>(alloc: Global, store: &mut S) -> Result<Bytes, Stop>
     ensures { (input : Option (Items ℕ)) (input_faults : ℕ) → Did commands.check
@@ -156,7 +169,7 @@ fn done<S: Store, I: Source>(
         Command::Export { table } => export(alloc, store, table),
         Command::Reformat { table } => reformat(alloc, store, table),
         Command::Check => check(alloc, store),
-        Command::Explain => Err(Stop::Usage),
+        Command::Explain => explain(alloc, store, input),
         Command::Help => help(alloc),
         Command::Query(options) => {
             if has_defaults(&options) {

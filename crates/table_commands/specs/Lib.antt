@@ -4,6 +4,7 @@ pub mod Checking
 pub mod Exporting
 pub mod Saving
 pub mod Importing
+pub mod Querying
 pub mod Reformatting
 pub mod Stops
 pub mod ErrorStops

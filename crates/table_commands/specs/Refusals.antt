@@ -26,6 +26,10 @@ pub record Refusal : Type 0 where
 abbrev pub bad_query : Refusal
 bad_query = record { kind = query_text; line = codes "query: not built\n" }
 
+-- a query, of which this is said
+abbrev pub refused_query : List ℕ → Refusal
+refused_query what = record { kind = query_text; line = codes "query: " ++ what ++ codes "\n" }
+
 -- a file that is absent or out of form
 abbrev pub bad_file : List ℕ → List ℕ → Refusal
 bad_file name what = record { kind = database; line = codes "database: " ++ name ++ codes ": " ++ what ++ codes "\n" }

@@ -8,6 +8,7 @@ use Rattle.stream_core.specs.Names.{schema_file_name}
 use Rattle.table_commands.specs.Refusals as refusals
 use Rattle.table_commands.specs.Refusals.{status_of_kind, bad_query, bad_file, no_such_table, sum_too_wide, usage_line}
 use Rattle.table_commands.specs.Importing.{import_too_long, bad_rows}
+use Rattle.table_commands.specs.Querying.{query_too_long, bad_text, bad_binding}
 use Rattle.table_commands.specs.declared.stops.What.{What}
 use Rattle.table_commands.specs.declared.stops.What.TheVariants as what
 use Rattle.table_commands.specs.declared.stops.Refusal.{Refusal}
@@ -35,6 +36,9 @@ what_text (what.Shape table column) = codes "shape " ++ decimal table ++ codes "
 -- the refusal that a variant stands for
 abbrev pub refusal_of : Refusal → refusals.Refusal
 refusal_of refusal.Query = bad_query
+refusal_of refusal.QueryTooLong = query_too_long
+refusal_of (refusal.Text given) = bad_text given
+refusal_of (refusal.Binding given) = bad_binding given
 refusal_of (refusal.Database file what) = bad_file file (what_text what)
 refusal_of (refusal.RepeatedName name) = bad_file schema_file_name (codes "repeated " ++ name)
 refusal_of (refusal.RepeatedKey table) = bad_file table (codes "repeated key")

@@ -83,7 +83,7 @@ fn schema_in(alloc: Global, bytes: &[u8]) -> Result<Schema, Stop>
 }
 
 /// The schema of the database.
-pub(crate) fn schema_of<S: Store>(alloc: Global, store: &mut S) -> Result<Schema, Stop>
+pub fn schema_of<S: Store>(alloc: Global, store: &mut S) -> Result<Schema, Stop>
     ensures step { (files : Files) → S.files store.old ≡ Some files → Ends (λ (schema : schemas.Schema). schema) result (SchemaStep files) }
     ensures lawful { IfOk result IsSchema }
     ensures kept { KeepsStore (S.files store.old) (S.files store.new) (S.faults store.old) (S.faults store.new) result }

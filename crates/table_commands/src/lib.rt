@@ -15,6 +15,7 @@ mod saving;
 mod stops;
 
 pub use checking::check_answer;
+pub use databases::schema_of;
 pub use exporting::export_answer;
 pub use files::{bytes_of, column_what, refused};
 pub use importing::ready_import;

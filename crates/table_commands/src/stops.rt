@@ -4,10 +4,13 @@ ghost use Rattle.std.specs.Prelude.{◌≡◌, ◌+◌, ◌≤◌, ◌++◌, [],
 ghost use Rattle.stream_core.specs.Names.{schema_file_name};
 ghost use Rattle.table_commands.specs.Refusals.{status_of_kind};
 ghost use Rattle.table_commands.specs.Importing.{bad_rows, field_words, import_text};
+ghost use Rattle.table_commands.specs.Querying.{bad_binding, bad_text, binding_words, text_words, wrong_at};
 ghost use Rattle.table_commands.specs.Stops.{refusal_of, what_text, stop_status, stop_line};
 
 use arrayvec::ArrayString;
 use itoa::Buffer;
+use query_bind::BindError;
+use query_text::TextError;
 use std::alloc::AllocError;
 use stream_core::{FileName, Name};
 use table_import::ImportError;
@@ -44,6 +47,12 @@ pub enum What {
 pub enum Refusal {
     /// The text is no query that is built.
     Query,
+    /// The text of a query has more than 65,536 bytes.
+    QueryTooLong,
+    /// The text of a query is refused for this reason, which is not `Memory`.
+    Text(TextError),
+    /// A query does not bind to the schema for this reason, which is not `Memory`.
+    Binding(BindError),
     /// A file of the database is not good, for this reason.
     Database(FileName, What),
     /// Two tables or two columns of the schema have this name.
@@ -66,7 +75,10 @@ impl Refusal {
         ensures { result ≡ status_of_kind (refusal_of self.now).kind }
     {
         match self {
-            Refusal::Query => 1,
+            Refusal::Query
+            | Refusal::QueryTooLong
+            | Refusal::Text(_)
+            | Refusal::Binding(_) => 1,
             Refusal::Database(_, _)
             | Refusal::RepeatedName(_)
             | Refusal::RepeatedKey(_)
@@ -82,6 +94,9 @@ impl Refusal {
     {
         match self {
             Refusal::Query => line_of("query: not built\n"),
+            Refusal::QueryTooLong => line_of("query: too long\n"),
+            Refusal::Text(error) => text_line(*error),
+            Refusal::Binding(error) => binding_line(*error),
             Refusal::Database(file, what) => database_line(file, *what),
             Refusal::RepeatedName(name) => repeated_name_line(name),
             Refusal::RepeatedKey(table) => repeated_key_line(table),
@@ -133,6 +148,76 @@ fn repeated_key_line(table: &Name) -> Line
     line.push_str(table.as_str());
     line.push_str(": repeated key\n");
     line
+}
+
+/// `query: WHAT at PLACE`, of a text.
+fn text_line(error: TextError) -> Line
+    ensures { result.bytes ≡ (bad_text error).line }
+{
+    let mut line = line_of("query: ");
+    push_text(&mut line, error);
+    line.push_str("\n");
+    line
+}
+
+/// `query: WHAT at PLACE`, of a binding.
+fn binding_line(error: BindError) -> Line
+    ensures { result.bytes ≡ (bad_binding error).line }
+{
+    let mut line = line_of("query: ");
+    push_binding(&mut line, error);
+    line.push_str("\n");
+    line
+}
+
+/// Appends what is wrong with a query's text: at most 40 bytes.
+fn push_text(line: &mut Line, error: TextError)
+    requires { length line.old.bytes ≤ 8 }
+    ensures text { line.new.bytes ≡ line.old.bytes ++ unwrap_or (text_words error) [] }
+    ensures short { length line.new.bytes ≤ length line.old.bytes + 40 }
+{
+    match error {
+        TextError::BadByte { at } => push_wrong(line, "bad byte", at),
+        TextError::NumberTooLarge { at } => push_wrong(line, "number too large", at),
+        TextError::OpenString { at } => push_wrong(line, "open string", at),
+        TextError::Syntax { at } => push_wrong(line, "syntax", at),
+        TextError::Memory => (),
+    }
+}
+
+/// Appends why a query does not bind: at most 40 bytes.
+fn push_binding(line: &mut Line, error: BindError)
+    requires { length line.old.bytes ≤ 8 }
+    ensures text { line.new.bytes ≡ line.old.bytes ++ unwrap_or (binding_words error) [] }
+    ensures short { length line.new.bytes ≤ length line.old.bytes + 40 }
+{
+    match error {
+        BindError::UnknownTable { at } => push_wrong(line, "unknown table", at),
+        BindError::UnknownColumn { at } => push_wrong(line, "unknown column", at),
+        BindError::NotInFrom { at } => push_wrong(line, "not in from", at),
+        BindError::FactCount { at } => push_wrong(line, "fact count", at),
+        BindError::JoinShape { at } => push_wrong(line, "join shape", at),
+        BindError::JoinMissing { at } => push_wrong(line, "join missing", at),
+        BindError::JoinTwice { at } => push_wrong(line, "join twice", at),
+        BindError::TypeMismatch { at } => push_wrong(line, "type mismatch", at),
+        BindError::GroupMismatch { at } => push_wrong(line, "group mismatch", at),
+        BindError::OrderUnknown { at } => push_wrong(line, "order unknown", at),
+        BindError::NameTwice { at } => push_wrong(line, "name twice", at),
+        BindError::Memory => (),
+    }
+}
+
+/// Appends `WHAT at PLACE`.
+fn push_wrong(line: &mut Line, what: &str, at: u64)
+    requires room { length line.old.bytes ≤ 8 }
+    requires few { length what.now ≤ 16 }
+    ensures text { line.new.bytes ≡ line.old.bytes ++ wrong_at what.now at }
+    ensures short { length line.new.bytes ≤ length line.old.bytes + 40 }
+{
+    let mut buffer = Buffer::new();
+    line.push_str(what);
+    line.push_str(" at ");
+    line.push_str(buffer.format(at));
 }
 
 /// `import: WHAT`.
