@@ -13,6 +13,8 @@ use Rattle.table_commands.specs.Exporting.{ExportReply}
 use Rattle.table_commands.specs.Saving.{unchanged}
 use Rattle.table_commands.proofs.OneReplyLemmas.{CheckReply-one, ExportReply-one, ReformatReply-one}
 use Rattle.table_commands.proofs.OneImportLemmas.{ImportReply-one}
+use Rattle.query_commands.specs.Explaining.{ExplainReply}
+use Rattle.query_commands.proofs.OneReplyLemmas.{ExplainReply-one}
 use Rattle.command_words.specs.Commands as command
 use Rattle.command_words.specs.Commands.{Command}
 use Rattle.command_words.specs.Words.{help_text}
@@ -68,7 +70,7 @@ Means-one (command.import table) files text = ImportReply-one files table text
 Means-one (command.export table) files text = Unchanged-one files (ExportReply files table) (ExportReply-one files table)
 Means-one (command.reformat table) files text = ReformatReply-one files table
 Means-one command.check files text = Unchanged-one files (CheckReply files) (CheckReply-one files)
-Means-one command.explain files text = λ end other p q. absurd p
+Means-one command.explain files text = Unchanged-one files (ExplainReply files text) (ExplainReply-one files text)
 Means-one command.help files text = Unchanged-one files (Gives (Ok help_text)) (Gives-one (Ok help_text))
 Means-one (command.query options) files text =
     Unchanged-one files (QueryReply files text) (Then-one (QueryOf text) (AnswerOf files) (QueryOf-one text) (AnswerOf-one files))

@@ -46,7 +46,7 @@ module _ {E : Type 0} (P : E → Type 0) where
   pub err_refuses : {A : Type 0} (given : E) → P given → Refuses {A = A} P (Err given)
   err_refuses {A} given holds refusal is = subst P (same_refusal {A = A} given refusal is) holds
 
-  ok_or_refuses : {A : Type 0} (found : Option A) (given : E) → P given → Refuses P (ok_or found given)
+  pub ok_or_refuses : {A : Type 0} (found : Option A) (given : E) → P given → Refuses P (ok_or found given)
   ok_or_refuses (Some value) given holds = ok_refuses value
   ok_or_refuses {A} None given holds = err_refuses {A = A} given holds
 

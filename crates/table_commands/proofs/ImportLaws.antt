@@ -19,7 +19,7 @@ use Rattle.table_commands.specs.Importing.{import_text, ImportRefusalsAreSaid}
 use Rattle.table_commands.proofs.CheckLaws.{Refuses, ok_refuses, err_refuses, if_refuses, bind_refuses, walk_refuses}
 
 -- each refusal of either step has the property, and so of the one that is chosen
-choice_refuses : {A E : Type 0} (P : E → Type 0) (test : Bool) (one other : Result A E) → Refuses P one → Refuses P other → Refuses P (if test then one else other)
+pub choice_refuses : {A E : Type 0} (P : E → Type 0) (test : Bool) (one other : Result A E) → Refuses P one → Refuses P other → Refuses P (if test then one else other)
 choice_refuses P true one other first second = first
 choice_refuses P false one other first second = second
 

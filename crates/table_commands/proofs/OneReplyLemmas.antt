@@ -44,7 +44,7 @@ SchemaIn-one bytes =
     (λ refusal other p q. same_refusal refusal other (one_schema bytes (Err refusal) (Err other) p q))
     (λ schema refusal p q. ok_not_err schema refusal (one_schema bytes (Ok schema) (Err refusal) p q))
 
-SchemaStep-one : (files : Files) → HasOneEnd (SchemaStep files)
+pub SchemaStep-one : (files : Files) → HasOneEnd (SchemaStep files)
 SchemaStep-one files = Then-one (Gives (schema_bytes files)) SchemaIn (Gives-one (schema_bytes files)) SchemaIn-one
 
 pub TableStep-one : (files : Files) (name : List ℕ) → HasOneEnd (TableStep files name)

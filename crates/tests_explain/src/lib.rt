@@ -1,13 +1,22 @@
-// A library with one function.
+//! The command `explain` over schemas in memory.
+//!
+//! The contract of the top call says what it answers. The tests here say that the definitions mean what was meant, and that the command
+//! succeeds where memory is ample. Expected lines come from a second implementation.
 #![tactic(auto)]
 
-ghost use Rattle.std.specs.Prelude.{◌≡◌};
-ghost use Rattle.tests_explain.specs.Echo.{echo_of};
-
-// The `ensures` clause is the contract: what `echo` returns is `echo_of` of its argument, a definition
-// in `specs/Echo.antt`, which a caller's clause can cite too.
-pub fn echo(x: usize) -> usize
-    ensures { result ≡ echo_of x }
-{
-    x
-}
+#[cfg(test)]
+mod explains;
+#[cfg(test)]
+mod faults;
+#[cfg(test)]
+mod folders;
+#[cfg(test)]
+mod orders;
+#[cfg(test)]
+mod plans;
+#[cfg(test)]
+mod refusals;
+#[cfg(test)]
+mod stars;
+#[cfg(test)]
+mod wants;
