@@ -91,11 +91,7 @@ fn query<S: Store, I: Source>(
 }
 
 /// The answer to `explain`: a text that says no query is refused before the schema is loaded.
-fn explain<S: Store, I: Source>(
-    alloc: Global,
-    store: &mut S,
-    input: &mut I,
-) -> Result<Bytes, Stop>
+fn explain<S: Store, I: Source>(alloc: Global, store: &mut S, input: &mut I) -> Result<Bytes, Stop>
     ensures { Did commands.explain (inside (S.files store.old) (S.faults store.old) (I.left input.old) (I.faults input.old))
         (inside (S.files store.new) (S.faults store.new) (I.left input.new) (I.faults input.new)) result }
 {

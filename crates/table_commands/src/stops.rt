@@ -75,10 +75,7 @@ impl Refusal {
         ensures { result ≡ status_of_kind (refusal_of self.now).kind }
     {
         match self {
-            Refusal::Query
-            | Refusal::QueryTooLong
-            | Refusal::Text(_)
-            | Refusal::Binding(_) => 1,
+            Refusal::Query | Refusal::QueryTooLong | Refusal::Text(_) | Refusal::Binding(_) => 1,
             Refusal::Database(_, _)
             | Refusal::RepeatedName(_)
             | Refusal::RepeatedKey(_)

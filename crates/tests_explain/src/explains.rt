@@ -22,7 +22,10 @@ fn short_queries_are_explained(rt: HostRuntime) -> Result<(), Fail> {
     let mut store = folder(alloc, Some(TWO_FACTS), &[])?;
     for (text, lines) in [
         ("select sum(s_price) from sales", "o1 c1 = sum s_price\n"),
-        ("\tSELECT Sum( S_PRICE )\nFROM Sales ; ", "o1 c1 = sum s_price\n"),
+        (
+            "\tSELECT Sum( S_PRICE )\nFROM Sales ; ",
+            "o1 c1 = sum s_price\n",
+        ),
         (
             "select sum(r_day) from returns where r_day = 18446744073709551615",
             "o1 c1 = select r_day = 18446744073709551615\n\

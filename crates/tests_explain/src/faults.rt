@@ -7,7 +7,9 @@ use std::process::Abort;
 use std::test::Fail;
 
 const TEXT: &str = "select sum(s_price) from sales";
+
 const LINE: &str = "o1 c1 = sum s_price\n";
+
 const FAULT: &str = "fault: store\n";
 
 /// The thirty bytes are read in five pieces, and a sixth read finds the end. A seventh is never made. The schema is not even looked for
@@ -43,8 +45,20 @@ fn each_failed_read_is_a_fault(rt: HostRuntime) -> Result<(), Fail> {
 fn the_schema_alone_is_loaded_and_only_behind_a_query(rt: HostRuntime) -> Result<(), Fail> {
     let alloc = rt.alloc();
     let mut broken = folder(alloc, Some(TWO_FACTS), &[0])?;
-    expect_explained(&rt, alloc, &mut broken, "select", (1, "query: syntax at 6\n"))?;
-    expect_explained(&rt, alloc, &mut broken, "select 'a", (1, "query: open string at 7\n"))?;
+    expect_explained(
+        &rt,
+        alloc,
+        &mut broken,
+        "select",
+        (1, "query: syntax at 6\n"),
+    )?;
+    expect_explained(
+        &rt,
+        alloc,
+        &mut broken,
+        "select 'a",
+        (1, "query: open string at 7\n"),
+    )?;
     expect_explained(&rt, alloc, &mut broken, TEXT, (3, FAULT))?;
     expect_explained(&rt, alloc, &mut broken, TEXT, (0, LINE))?;
     let mut store = folder(alloc, Some(TWO_FACTS), &[1, 3])?;

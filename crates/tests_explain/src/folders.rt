@@ -63,7 +63,10 @@ pub fn expect(
     let (status, written) = expected;
     let (found, taken) = answer(alloc, store, words, input, 10_000)?;
     let answered = found == status && taken.as_slice() == written.as_bytes();
-    assert!(rt; answered, "{words:?} answers {found}, and not {status} {written}");
+    assert!(rt;
+        answered,
+        "{words:?} answers {found}, and not {status} {written}"
+    );
     Ok(())
 }
 
@@ -79,6 +82,9 @@ pub fn expect_explained(
     let mut input = source(alloc, text.as_bytes(), &[])?;
     let (found, taken) = answer(alloc, store, &["explain"], &mut input, 10_000)?;
     let answered = found == status && taken.as_slice() == written.as_bytes();
-    assert!(rt; answered, "{text} answers {found}, and not {status} {written}");
+    assert!(rt;
+        answered,
+        "{text} answers {found}, and not {status} {written}"
+    );
     Ok(())
 }

@@ -8,7 +8,9 @@ use std::test::Fail;
 
 /// A text that says no query, and one that binds to no schema.
 const NO_QUERY: (&str, &str) = ("select", "query: syntax at 6\n");
+
 const UNBOUND: (&str, &str) = ("select x from nowhere", "query: unknown table at 14\n");
+
 const BOUND: (&str, &str) = ("select sum(s_price) from sales", "o1 c1 = sum s_price\n");
 
 const UNKNOWN_KIND: &str = r#"
@@ -21,9 +23,7 @@ table = [ { name = "a", role = "fact", column = [ { name = "x", kind = "number" 
 
 /// A text is refused before the schema is, and the schema before a binding.
 #[test]
-fn the_schema_is_refused_between_the_text_and_the_binding(
-    rt: HostRuntime,
-) -> Result<(), Fail> {
+fn the_schema_is_refused_between_the_text_and_the_binding(rt: HostRuntime) -> Result<(), Fail> {
     let alloc = rt.alloc();
     for (schema, line) in [
         (None, "database: schema.toml: no file\n"),
