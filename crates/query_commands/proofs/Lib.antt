@@ -1,2 +1,3 @@
 pub mod QueryLemmas
+pub mod QueryLaws
 pub mod OneReplyLemmas

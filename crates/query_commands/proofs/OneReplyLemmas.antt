@@ -15,10 +15,10 @@ use Rattle.query_text.specs.declared.text.TextError.TheVariants as text
 use Rattle.query_text.proofs.OutcomeLaws.{reads-query, one_outcome}
 use Rattle.query_bind.specs.Binding.{bound_of}
 use Rattle.table_commands.specs.Databases.{SchemaStep}
-use Rattle.table_commands.specs.Querying.{query_too_long, bad_text, IsRefusedAs}
+use Rattle.table_commands.specs.Querying.{query_too_long, bad_text}
 use Rattle.table_commands.specs.Refusals.{limited}
 use Rattle.table_commands.proofs.OneReplyLemmas.{SchemaStep-one}
-use Rattle.query_commands.specs.Explaining.{QueryIn, TextStep, with_line, BindingStep, plan_lines, ExplainIn, ExplainOf, ExplainReply}
+use Rattle.query_commands.specs.Explaining.{IsRefusedAs, QueryIn, TextStep, with_line, BindingStep, plan_lines, ExplainIn, ExplainOf, ExplainReply}
 
 -- the error of a refusal
 fault_error : LexicalFault → ℕ → TextError

@@ -8,7 +8,7 @@ use Rattle.query_text.specs.Errors.{Refuses}
 use Rattle.query_text.specs.Errors.{error_view}
 use Rattle.query_text.specs.declared.text.TextError.{TextError}
 use Rattle.query_text.specs.declared.text.TextError.TheVariants as text
-use Rattle.table_commands.specs.Querying.{IsRefusedAs}
+use Rattle.query_commands.specs.Explaining.{IsRefusedAs}
 
 -- a refusal that is not want of memory is one of the text
 pub refused_as : (bytes : List ℕ) (given : TextError) → given ≢ text.Memory → Refuses IsQuery bytes (error_view given) → IsRefusedAs bytes given

@@ -1,17 +1,25 @@
 -- What `explain` answers, for an outside that does not fail.
-use Rattle.std.specs.Prelude.{ℕ, List, Result, Ok, Err}
+use Rattle.std.specs.Prelude.{◌≡◌, ℕ, List, Some, Result, Ok, Err, IsSome}
 use Rattle.definitions_outcomes.specs.Outcomes.{Outcomes, Gives, OneOrFault, Then}
 use Rattle.definitions_queries.specs.Queries.{Query}
-use Rattle.definitions_queries.specs.Texts.{max_query, IsQueryText}
+use Rattle.definitions_queries.specs.Grammar.{IsQuery}
+use Rattle.definitions_queries.specs.Texts as texts
+use Rattle.definitions_queries.specs.Texts.{max_query, IsQueryText, IsRefused}
 use Rattle.stream_core.specs.Files.{Files}
 use Rattle.catalog_core.specs.declared.schemas.Schema.{Schema}
+use Rattle.query_text.specs.Errors.{error_view}
+use Rattle.query_text.specs.declared.text.TextError.{TextError}
 use Rattle.query_bind.specs.Binding.{Binding, bound_of}
 use Rattle.query_bind.specs.declared.errors.BindError.{BindError}
 use Rattle.plan_core.specs.Explained.{plan_text}
 use Rattle.plan_core.specs.WholePlan.{plan_of}
 use Rattle.table_commands.specs.Databases.{SchemaStep}
-use Rattle.table_commands.specs.Querying.{query_too_long, bad_text, bad_binding, IsRefusedAs}
+use Rattle.table_commands.specs.Querying.{query_too_long, text_words, binding_words, bad_text, bad_binding}
 use Rattle.table_commands.specs.Refusals.{Refusal, limited}
+
+-- the text is refused so; want of memory is no refusal of a text
+abbrev pub IsRefusedAs : List ℕ → TextError → Type 0
+IsRefusedAs text given = (refusal : texts.Refusal) × (error_view given ≡ Some refusal) × IsRefused IsQuery text refusal
 
 -- the query that the bytes say, or the refusal with the least place
 abbrev pub QueryIn : List ℕ → Outcomes Query Refusal
@@ -47,3 +55,12 @@ ExplainOf files query = Then (SchemaStep files) (ExplainIn query)
 -- the answer to `explain`: the text is judged first, then the schema, then the binding
 abbrev pub ExplainReply : Files → List ℕ → Outcomes (List ℕ) Refusal
 ExplainReply files text = Then (TextStep text) (ExplainOf files)
+
+-- Laws.
+
+-- something is said of each refusal of a text, and of a binding
+abbrev pub TextRefusalsAreSaid : Type 0
+TextRefusalsAreSaid = (text : List ℕ) (given : TextError) → IsRefusedAs text given → IsSome (text_words given)
+
+abbrev pub BindingRefusalsAreSaid : Type 0
+BindingRefusalsAreSaid = (schema : Schema) (query : Query) (given : BindError) → bound_of schema query ≡ Err given → IsSome (binding_words given)

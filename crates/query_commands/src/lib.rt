@@ -4,6 +4,8 @@
 #![tactic(auto)]
 
 mod explaining;
+mod laws;
 mod texts;
 
 pub use explaining::explain_answer;
+pub use laws::query_refusals_are_said;

@@ -2,7 +2,6 @@ pub mod StepLemmas
 pub mod CheckLemmas
 pub mod CheckLaws
 pub mod ImportLaws
-pub mod QueryLaws
 pub mod ImportLemmas
 pub mod HeldLemmas
 pub mod OneReplyLemmas

@@ -15,9 +15,12 @@ use Rattle.catalog_core.specs.declared.schemas.Schema.{Schema}
 use Rattle.database_core.specs.NowFiles.{now_in}
 use Rattle.database_core.specs.TableFiles.{slot_to_write}
 use Rattle.database_core.specs.declared.errors.OpenError.TheVariants as error
+use Rattle.query_text.specs.declared.text.TextError.TheVariants as text
+use Rattle.query_bind.specs.declared.errors.BindError.TheVariants as binding
 use Rattle.table_import.specs.declared.errors.ImportError.TheVariants as import
 use Rattle.table_commands.specs.Databases.{schema_bytes, bad_schema, bad_database, found_in}
 use Rattle.table_commands.specs.Importing.{bad_rows, imported_line}
+use Rattle.table_commands.specs.Querying.{query_too_long, bad_text, bad_binding}
 use Rattle.table_commands.specs.Refusals.{bad_file, fault_text, no_such_table}
 
 a_fault_of_a_file : (bad_file (codes "t.a.b.col") (fault_text bad_width)).line ≡ codes "database: t.a.b.col: bad width\n"
@@ -114,3 +117,16 @@ a_row_of_an_earlier_key = refl
 the_closing_line : imported_line (record { name = codes "t"; role = Fact; key = None; separator = 44; header = false; trailing = false; repeats = false; columns = [] }) 4 ≡ codes "imported t 4 rows\n"
 unfolding digits
 the_closing_line = refl
+
+-- ---- the lines of queries
+
+a_query_of_too_many_bytes : query_too_long.line ≡ codes "query: too long\n"
+a_query_of_too_many_bytes = refl
+
+an_unfinished_text : (bad_text (text.Syntax 6)).line ≡ codes "query: syntax at 6\n"
+unfolding digits
+an_unfinished_text = refl
+
+a_join_that_is_missing : (bad_binding (binding.JoinMissing 32)).line ≡ codes "query: join missing at 32\n"
+unfolding digits
+a_join_that_is_missing = refl

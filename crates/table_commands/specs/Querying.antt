@@ -1,14 +1,7 @@
 -- What is said of a query that is refused: of its text, and of its binding to a schema. Places count bytes from 0.
-use Rattle.std.specs.Prelude.{◌≡◌, ℕ, List, [], ◌++◌, codes, decimal, Option, Some, None, unwrap_or, Err, IsSome}
-use Rattle.definitions_queries.specs.Queries.{Query}
-use Rattle.definitions_queries.specs.Grammar.{IsQuery}
-use Rattle.definitions_queries.specs.Texts as texts
-use Rattle.definitions_queries.specs.Texts.{IsRefused}
-use Rattle.catalog_core.specs.declared.schemas.Schema.{Schema}
-use Rattle.query_text.specs.Errors.{error_view}
+use Rattle.std.specs.Prelude.{ℕ, List, [], ◌++◌, codes, decimal, Option, Some, None, unwrap_or}
 use Rattle.query_text.specs.declared.text.TextError.{TextError}
 use Rattle.query_text.specs.declared.text.TextError.TheVariants as text
-use Rattle.query_bind.specs.Binding.{bound_of}
 use Rattle.query_bind.specs.declared.errors.BindError.{BindError}
 use Rattle.query_bind.specs.declared.errors.BindError.TheVariants as binding
 use Rattle.table_commands.specs.Refusals.{Refusal, refused_query}
@@ -20,7 +13,7 @@ query_too_long = refused_query (codes "too long")
 abbrev pub wrong_at : List ℕ → ℕ → List ℕ
 wrong_at what at = what ++ codes " at " ++ decimal at
 
--- Nothing is said of want of memory, since no text and no schema give it: see the laws below.
+-- Nothing is said of want of memory, since no text and no schema give it: `query_commands` has the laws.
 
 -- of a text that is no query
 abbrev pub text_words : TextError → Option (List ℕ)
@@ -51,16 +44,3 @@ bad_text given = refused_query (unwrap_or (text_words given) [])
 
 abbrev pub bad_binding : BindError → Refusal
 bad_binding given = refused_query (unwrap_or (binding_words given) [])
-
--- the text is refused so, which is not want of memory
-abbrev pub IsRefusedAs : List ℕ → TextError → Type 0
-IsRefusedAs text given = (refusal : texts.Refusal) × (error_view given ≡ Some refusal) × IsRefused IsQuery text refusal
-
--- Laws.
-
--- something is said of each refusal of a text, and of a binding
-abbrev pub TextRefusalsAreSaid : Type 0
-TextRefusalsAreSaid = (text : List ℕ) (given : TextError) → IsRefusedAs text given → IsSome (text_words given)
-
-abbrev pub BindingRefusalsAreSaid : Type 0
-BindingRefusalsAreSaid = (schema : Schema) (query : Query) (given : BindError) → bound_of schema query ≡ Err given → IsSome (binding_words given)

@@ -18,9 +18,10 @@ use Rattle.query_bind.specs.declared.bounds.SumOf.TheVariants as operand
 use Rattle.query_bind.specs.declared.bounds.Item.TheVariants as item
 use Rattle.query_bind.specs.declared.errors.BindError.{BindError}
 use Rattle.query_bind.specs.declared.errors.BindError.TheVariants as refusal
-use Rattle.table_commands.specs.Querying.{binding_words, TextRefusalsAreSaid, BindingRefusalsAreSaid}
+use Rattle.table_commands.specs.Querying.{binding_words}
 use Rattle.table_commands.proofs.CheckLaws.{Refuses, ok_refuses, err_refuses, ok_or_refuses, if_refuses, bind_refuses, walk_refuses}
 use Rattle.table_commands.proofs.ImportLaws.{choice_refuses}
+use Rattle.query_commands.specs.Explaining.{TextRefusalsAreSaid, BindingRefusalsAreSaid}
 
 -- something is said of each refusal of a text
 pub said_of_text : TextRefusalsAreSaid
