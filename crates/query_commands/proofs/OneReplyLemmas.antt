@@ -1,5 +1,5 @@
 -- `explain` has one answer at most.
-use Rattle.std.proofs.Common.{◌≡◌, ℕ, List, Some, Ok, refl, sym, ap, ◌∙◌}
+use Rattle.std.proofs.Common.{◌≡◌, ℕ, List, Some, Ok, sym, ap, ◌∙◌}
 use Rattle.definitions_outcomes.specs.Outcomes.{Gives, HasOneEnd}
 use Rattle.definitions_outcomes.proofs.OutcomeLaws.{Gives-one, OneOrFault-one, Then-one}
 use Rattle.definitions_queries.specs.Grammar.{Spells}
@@ -21,12 +21,12 @@ use Rattle.table_commands.proofs.OneReplyLemmas.{SchemaStep-one}
 use Rattle.query_commands.specs.Explaining.{IsRefusedAs, QueryIn, TextStep, with_line, BindingStep, plan_lines, ExplainIn, ExplainOf, ExplainReply}
 
 -- the error of a refusal
-fault_error : LexicalFault → ℕ → TextError
+abbrev fault_error : LexicalFault → ℕ → TextError
 fault_error bad_byte at = text.BadByte at
 fault_error number_too_large at = text.NumberTooLarge at
 fault_error open_string at = text.OpenString at
 
-error_of : Refusal → TextError
+abbrev error_of : Refusal → TextError
 error_of (lexical error) = fault_error error.fault error.at
 error_of (syntax at) = text.Syntax at
 

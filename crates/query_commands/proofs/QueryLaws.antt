@@ -1,19 +1,18 @@
 -- Something is said of each refusal of a query: no text and no schema is answered with want of memory.
-use Rattle.std.proofs.Common.{◌≡◌, ℕ, Bool, true, false, List, [], ◌∷◌, ◌++◌, Option, Some, None, Result, Ok, Err, refl, length, map, filter}
+use Rattle.std.proofs.Common.{ℕ, Bool, List, [], ◌∷◌, ◌++◌, Option, Some, None, Result, Ok, Err, refl, length, filter}
 use Rattle.std.specs.Prelude.{◌||◌, ◌==◌, not, nat_eq, ok_or, slice_index_or, IsSome, if◌then◌else◌}
 use Rattle.std.specs.List.{list_any, zip}
 use Rattle.definitions_outcomes.specs.Computed.{bind}
-use Rattle.definitions_queries.specs.Queries.{Word, SumShape, QueryItem, column, sum, QueryCondition, join, compare, Query, QueryKey, Test}
+use Rattle.definitions_queries.specs.Queries.{Word, SumShape, QueryItem, column, sum, QueryCondition, join, compare, QueryKey, Test}
 use Rattle.catalog_core.specs.Columns.{table_named}
 use Rattle.catalog_core.specs.Schemas.{is_number}
 use Rattle.catalog_core.specs.declared.columns.ColumnId.{ColumnId}
 use Rattle.catalog_core.specs.declared.schemas.Schema.{Schema}
 use Rattle.query_text.specs.declared.text.TextError.TheVariants as text
-use Rattle.query_bind.specs.Binding.{table_in, next_table, tables_of, is_fact, first_place, only_fact, fact_of, mentioned, column_named, column_in, are_of_from, Tested, Conditions, kind_of, column_of, join_of, is_joined, join_in, misfit, unless_misfit, test_in, next_condition, conditions_of, join_to, joins_of, next_group, groups_of, Selected, operand_in, shaped, second_in, sum_in, alias_in, next_item, items_of, or_group, key_in, order_of, bound_of}
+use Rattle.query_bind.specs.Binding.{table_in, next_table, tables_of, is_fact, first_place, only_fact, fact_of, mentioned, column_named, column_in, are_of_from, Tested, Conditions, kind_of, column_of, join_of, is_joined, join_in, misfit, unless_misfit, test_in, next_condition, conditions_of, join_to, joins_of, next_group, groups_of, Selected, operand_in, shaped, second_in, sum_in, alias_in, next_item, items_of, or_group, key_in, order_of}
 use Rattle.query_bind.specs.NameMaps.{value_of, is_among}
 use Rattle.query_bind.specs.Steps.{accumulate}
 use Rattle.query_bind.specs.declared.bounds.JoinTo.{JoinTo}
-use Rattle.query_bind.specs.declared.bounds.SumOf.{SumOf}
 use Rattle.query_bind.specs.declared.bounds.SumOf.TheVariants as operand
 use Rattle.query_bind.specs.declared.bounds.Item.TheVariants as item
 use Rattle.query_bind.specs.declared.errors.BindError.{BindError}

@@ -1,9 +1,6 @@
 -- What the reading and the binding of a query say in the words of a command's steps.
-use Rattle.std.proofs.Common.{◌≡◌, ◌≢◌, ℕ, List, Some, Result, Ok, Err, refl, sym, ap, ◌∙◌}
+use Rattle.std.proofs.Common.{◌≢◌, ℕ, List, refl}
 use Rattle.definitions_queries.specs.Grammar.{IsQuery}
-use Rattle.query_bind.specs.Binding.{Binding}
-use Rattle.query_bind.specs.declared.errors.BindError.{BindError}
-use Rattle.query_bind.specs.declared.errors.BindError.TheVariants as binding
 use Rattle.query_text.specs.Errors.{Refuses}
 use Rattle.query_text.specs.Errors.{error_view}
 use Rattle.query_text.specs.declared.text.TextError.{TextError}

@@ -1,6 +1,6 @@
 //! The answer to `explain`: the text is read and judged first, then the schema is loaded, and the query is bound to it and planned.
 
-ghost use Rattle.std.specs.Prelude.{◌≡◌, ℕ, List as Items, Some, IfOk};
+ghost use Rattle.std.specs.Prelude.{◌≡◌, ℕ, List as Items, Some, Ok, IfOk};
 ghost use Rattle.stream_core.specs.Files.{Files};
 ghost use Rattle.catalog_core.specs.LawfulSchemas.{IsSchema};
 ghost use Rattle.query_text.specs.Views.{query_view};
@@ -16,7 +16,7 @@ use catalog_core::Schema;
 use plan_core::{explain, plan_of};
 use query_bind::{BindError, Bound, bind};
 use query_text::Query;
-use std::alloc::{AllocError, Global};
+use std::alloc::Global;
 use stream_core::{Bytes, Source, Store};
 use table_commands::{Refusal, Stop, schema_of};
 
@@ -36,13 +36,14 @@ fn bound_to(alloc: Global, schema: &Schema, query: &Query) -> Result<Bound, Stop
 }
 
 /// The lines of the bound query's plan.
-fn lines_of(alloc: Global, schema: &Schema, bound: &Bound) -> Result<Bytes, AllocError>
+fn lines_of(alloc: Global, schema: &Schema, bound: &Bound) -> Result<Bytes, Stop>
     requires lawful { IsSchema schema.now }
     requires binding { IsBinding schema.now (bound_view bound.now) }
-    ensures { IfOk result (λ lines. lines ≡ plan_lines schema.now (bound_view bound.now)) }
+    ensures step { Computes (λ (lines : Items ℕ). lines) result (Ok (plan_lines schema.now (bound_view bound.now))) }
+    ensures kept { IsInner result }
 {
     let plan = plan_of(alloc, bound, schema)?;
-    explain(alloc, &plan, schema)
+    Ok(explain(alloc, &plan, schema)?)
 }
 
 /// The lines of the query's plan over the schema.
@@ -53,7 +54,7 @@ fn explain_in(alloc: Global, schema: &Schema, query: &Query) -> Result<Bytes, St
     ensures kept { IsInner result }
 {
     let bound = bound_to(alloc, schema, query)?;
-    Ok(lines_of(alloc, schema, &bound)?)
+    lines_of(alloc, schema, &bound)
 }
 
 /// The lines of the query's plan over the schema of the database.
