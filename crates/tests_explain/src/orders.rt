@@ -43,7 +43,7 @@ fn the_schema_is_refused_between_the_text_and_the_binding(rt: HostRuntime) -> Re
 /// The bytes of a query with spaces behind it, so many in all.
 fn padded(alloc: Global, len: usize) -> Result<Vec<u8>, AllocError> {
     let mut text = Vec::from_slice(alloc, BOUND.0.as_bytes())?;
-    while text.len() < len {
+    for _space in text.len()..len {
         text.push(b' ')?;
     }
     Ok(text)
