@@ -45,6 +45,7 @@ BindingStep schema query = Gives (with_line (bound_of schema query))
 abbrev pub plan_lines : Schema → Binding → List ℕ
 plan_lines schema binding = plan_text schema (plan_of binding schema)
 
+-- the lines of the query's plan over the schema, or why it can't be bound to it
 abbrev pub ExplainIn : Query → Schema → Outcomes (List ℕ) Refusal
 ExplainIn query schema = Then (BindingStep schema query) (λ binding. Gives (Ok (plan_lines schema binding)))
 

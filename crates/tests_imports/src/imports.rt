@@ -119,7 +119,7 @@ fn the_commands_are_listed(rt: HostRuntime) -> Result<(), Fail> {
         (&["import"], "", 2, usage),
         (&["import", "a", "b"], "", 2, usage),
         (&["check", "date"], "", 2, usage),
-        (&["explain"], "", 2, usage),
+        (&["explain", "me"], "", 2, usage),
         (&["demo"], "", 2, usage),
         (&["query", "--trace"], "", 2, usage),
         (&[], "", 2, usage),
