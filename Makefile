@@ -47,6 +47,7 @@ bench: $(MORPHQ) $(COLUMN_TOOL)
 	bench/auto $(PROCESSOR)
 	bench/dictionaries $(PROCESSOR)
 	bench/queries $(PROCESSOR)
+	bench/plans
 	bench/read_column
 	bench/first_query
 	bench/imports
