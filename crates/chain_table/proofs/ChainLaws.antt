@@ -5,6 +5,9 @@ use Rattle.std.proofs.lemmas.Bool.{cases_lt, cases_eq}
 use Rattle.std.proofs.lemmas.List.{get_or-map, get_or_append_left, get_or_push, length_push, length-set, length-map, map-append, get_or-set_same, get_or-set_other, get_or-replicate, get_or_past, length-replicate}
 use Rattle.std.proofs.lemmas.Nat.{and_le_r}
 use Rattle.chain_table.specs.Buckets.{bucket_of, buckets_of, IsLink, IsChained}
+use Rattle.std.proofs.Common.{take, drop, add-one, append-nil}
+use Rattle.std.proofs.lemmas.List.{length-take-le, take_more, take_all, drop_all}
+use Rattle.std.proofs.Math.Seq.{take-suc-set}
 
 pub bucket_at : (mixer mask : ℕ) (keys : List ℕ) (entry : ℕ) → entry < length keys → slice_index (buckets_of mixer mask keys) entry ≡ bucket_of mixer mask (slice_index keys entry)
 bucket_at mixer mask keys entry within = get_or-map (bucket_of mixer mask) keys entry 0 0 within
@@ -139,3 +142,54 @@ IsChained-reserved mixer mask room heads keys values older h k v o fits =
 pub IsChained-empty : (mixer : ℕ) (heads keys values older : List ℕ) → heads ≡ [] → keys ≡ [] → values ≡ [] → older ≡ [] → IsChained mixer 0 heads keys values older 0
 IsChained-empty mixer heads keys values older h k v o =
     IsChained-same mixer 0 [] heads [] keys [] values [] older 0 h k v o (IsChained-none mixer 0 [] 0 (λ bucket. refl) (λ some. absurd (omega arith)) (omega arith))
+
+-- # All entries anew
+
+-- one entry more is linked, of lists of which the first ones were
+pub IsChained-next : (mixer mask : ℕ) (heads keys older : List ℕ) (n bucket next : ℕ) → n < length keys → length older ≡ length keys
+    → bucket ≡ bucket_of mixer mask (slice_index keys n) → next ≡ slice_index heads bucket
+    → IsChained mixer mask heads (take n keys) (take n keys) (take n older) (length keys)
+    → IsChained mixer mask (set heads bucket (n + 1)) (take (n + 1) keys) (take (n + 1) keys) (take (n + 1) (set older n next)) (length keys)
+IsChained-next mixer mask heads keys older n bucket next within long at newest is =
+    let key = slice_index keys n in
+    let here = bucket_of mixer mask key in
+    let count : length (take n keys) ≡ n = length-take-le n keys (omega arith) in
+    let grown : take (n + 1) keys ≡ take n keys ++ key ∷ [] = take_more keys n 0 within in
+    IsChained-same mixer mask (set heads here (length (take n keys) + 1)) (set heads bucket (n + 1)) (take n keys ++ key ∷ []) (take (n + 1) keys) (take n keys ++ key ∷ []) (take (n + 1) keys)
+    (take n older ++ slice_index heads here ∷ []) (take (n + 1) (set older n next)) (length keys)
+    (ap (λ b. set heads b (n + 1)) at ∙ ap (λ m. set heads here (m + 1)) (sym count)) grown grown
+    (ap (λ m. take m (set older n next)) (add-one n) ∙ take-suc-set older n next (omega arith) ∙ ap (λ m. take n older ++ m ∷ []) (newest ∙ ap (slice_index heads) at))
+    (IsChained-insert mixer mask heads (take n keys) (take n keys) (take n older) (length keys) key key is (omega arith))
+
+-- the same buckets with values
+pub IsChained-relinked : (mixer mask : ℕ) (heads keys values older : List ℕ) (room : ℕ) → (0 < room → length heads ≡ mask + 1) → length values ≡ length keys → length keys ≤ room → room < 2 ^ 32
+    → IsChained mixer mask heads keys keys older (length keys) → IsChained mixer mask heads keys values older room
+IsChained-relinked mixer mask heads keys values older room sized paired few fits is = record {
+  sized = sized;
+  paired = paired;
+  linked = is.linked;
+  few = few;
+  fits = fits;
+  heads_are = is.heads_are;
+  older_are = is.older_are;
+}
+
+-- one link more names nothing
+pub cleared-next : (links : List ℕ) (n : ℕ) → ((bucket : ℕ) → bucket < n → slice_index links bucket ≡ 0) → (bucket : ℕ) → bucket < n + 1 → slice_index (set links n 0) bucket ≡ 0
+cleared-next links n none bucket below =
+    elim (cases_eq bucket n) [
+      | inl same ↦ elim (cases_lt n (length links)) [
+        | inl within ↦ ap (slice_index (set links n 0)) same ∙ get_or-set_same links n 0 0 within
+        | inr past ↦ get_or_past (set links n 0) bucket 0 (omega (arith, length-set links n 0))
+      ]
+      | inr other ↦ get_or-set_other links n bucket 0 0 other ∙ none bucket (omega arith)
+    ]
+
+-- what stands in a list of which all items were written
+pub rewritten : (out items : List ℕ) (n : ℕ) → n ≡ length items → length out ≡ length items → take n (out ++ drop (length out) items) ≡ out
+rewritten out items n all same =
+    ap (λ (l : List ℕ). take n (out ++ l)) (drop_all (length out) items (omega arith)) ∙ ap (take n) (append-nil out) ∙ take_all n out (omega arith)
+
+pub IsChained-rewritten : (mixer mask : ℕ) (heads keys values older : List ℕ) (room : ℕ) {heads' older' : List ℕ} → heads' ≡ heads → older' ≡ older
+    → IsChained mixer mask heads keys values older room → IsChained mixer mask heads' keys values older' room
+IsChained-rewritten mixer mask heads keys values older room {heads'} {older'} h o is = IsChained-same mixer mask heads heads' keys keys values values older older' room h refl refl o is

@@ -1,8 +1,8 @@
 //! Entries by their keys, in chains by bucket.
 
-ghost use Rattle.std.specs.Prelude.{◌≡◌, ◌+◌, ◌*◌, ◌^◌, ◌<◌, ◌≤◌, ◌++◌, ◌∷◌, [], length, replicate, slice_index, vec_len, vec_capacity, IfOk, OnOk, OnErr, MatchOption};
+ghost use Rattle.std.specs.Prelude.{◌≡◌, ℕ, ◌+◌, ◌*◌, ◌^◌, ◌<◌, ◌≤◌, ◌++◌, ◌∷◌, [], length, replicate, slice_index, vec_len, vec_capacity, IfOk, OnOk, OnErr, MatchOption};
 ghost use Rattle.chain_table.specs.Entries.{entries_of, IsNewestBelow};
-ghost use Rattle.chain_table.specs.Buckets.{bucket_of, IsLink, IsBegun};
+ghost use Rattle.chain_table.specs.Buckets.{bucket_of, IsLink, IsChained, IsBegun};
 
 use std::alloc::{AllocError, Global};
 use std::marker::Model;
@@ -103,6 +103,24 @@ impl Chain {
         self.heads[bucket] = entry + 1;
     }
 
+    /// Puts the entries into buckets by another mixer, as for keys that all fall into few. It takes no memory, and goes over all buckets and entries.
+    pub fn spread(&mut self)
+        ensures { self.new ≡ self.old }
+    {
+        if self.keys.is_empty() {
+            return;
+        }
+        self.mixer = self.mixer.wrapping_mul(MIXER);
+        clear(self.heads.as_mut_slice());
+        relink(
+            self.mixer,
+            self.mask,
+            self.keys.as_slice(),
+            self.heads.as_mut_slice(),
+            self.older.as_mut_slice(),
+        );
+    }
+
     /// The newest entry of the key.
     #[inline]
     pub fn first(&self, key: u64) -> Option<u32>
@@ -192,6 +210,33 @@ fn zeros(alloc: Global, count: usize) -> Result<Vec<u32>, AllocError>
     vec![in alloc; 0; count]
 }
 
+/// Makes all links name nothing.
+fn clear(links: &mut [u32])
+    ensures size { length links.new ≡ length links.old }
+    ensures none { (bucket : ℕ) → slice_index links.new bucket ≡ 0 }
+{
+    for index in 0..links.len() {
+        links[index] = 0;
+    }
+}
+
+/// Links all entries anew, in buckets of which none has an entry yet.
+fn relink(mixer: u64, mask: u64, keys: &[u64], heads: &mut [u32], older: &mut [u32])
+    requires sized { length heads.old ≡ mask + 1 }
+    requires none { (bucket : ℕ) → slice_index heads.old bucket ≡ 0 }
+    requires linked { length older.old ≡ length keys.now }
+    requires few { length keys.now < 2 ^ 32 }
+    ensures size { length heads.new ≡ length heads.old }
+    ensures long { length older.new ≡ length older.old }
+    ensures links { IsChained mixer mask heads.new keys.now keys.now older.new (length keys.now) }
+{
+    for entry in 0..keys.len() {
+        let bucket = bucket_of(keys[entry], mixer, mask) as usize;
+        older[entry] = heads[bucket];
+        heads[bucket] = entry as u32 + 1;
+    }
+}
+
 /// Appends within the capacity.
 #[inline]
 fn push_word(list: &mut Vec<u64>, value: u64)
@@ -267,6 +312,10 @@ mod tests {
         assert_eq!(rt; chain.first(1 << 40), None, "a key of the same bucket");
         assert_eq!(rt; chain.first(7), None, "a key of another bucket");
         assert_eq!(rt; chain.value(3), 13, "the value of an entry");
+        chain.spread();
+        assert_eq!(rt; chain.first(0), Some(4), "the newest in another bucket");
+        assert_eq!(rt; chain.next_of(4), Some(2), "the one before, there");
+        assert_eq!(rt; chain.first(1 << 36), Some(1), "the other key");
         Ok(())
     }
 }
