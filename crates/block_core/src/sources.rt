@@ -1,6 +1,6 @@
 //! Sources of lists: by blocks, and by places.
 
-ghost use Rattle.std.specs.Prelude.{◌≡◌, ℕ, ◌*◌, ◌<◌, ◌≤◌, List, length, slice_index};
+ghost use Rattle.std.specs.Prelude.{◌≡◌, ℕ, ◌+◌, ◌*◌, ◌<◌, ◌≤◌, List, All, map, length, slice_index};
 ghost use Rattle.definitions_blocks.specs.Columns.{max_rows};
 ghost use Rattle.definitions_blocks.specs.Blocks.{block_values, block_at};
 ghost use Rattle.block_core.specs.Counts.{next_count};
@@ -42,4 +42,25 @@ pub trait PlaceSource {
         ensures list { list self.new ≡ list self.old }
         ensures later { steps.old ≤ steps.new }
         ensures steps { steps.new ≤ next_count steps.old };
+
+    /// Looks up the value at each of the places, which may come in any order, and gives them as the first of `found`. It takes at
+    /// most a step for each. A source overrides it to ask once, and not for each place, how its list is kept.
+    fn look_up<'a, G>(
+        &mut self,
+        places: &[u64],
+        found: &'a mut [u64],
+        steps: &mut Steps<G>,
+    ) -> &'a [u64]
+        requires within { All (λ place. place < length (list self.old)) places.now }
+        requires room { length places.now ≤ length found.old }
+        ensures values { result.now ≡ map (λ place. slice_index (list self.old) place) places.now }
+        ensures list { list self.new ≡ list self.old }
+        ensures later { steps.old ≤ steps.new }
+        ensures steps { steps.new ≤ steps.old + length places.now }
+    {
+        for index in 0..places.len() {
+            found[index] = self.value_at(places[index], steps);
+        }
+        &found[..places.len()]
+    }
 }

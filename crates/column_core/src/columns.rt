@@ -1,6 +1,6 @@
 //! Columns: a format and a list, kept as the list's file.
 
-ghost use Rattle.std.specs.Prelude.{◌≡◌, ◌+◌, ◌-◌, ◌*◌, ◌/◌, ◌%◌, ◌<◌, ◌≤◌, true, ℕ, List as Items, length, take, drop, slice_index, IfOk, IfSome};
+ghost use Rattle.std.specs.Prelude.{◌≡◌, ◌+◌, ◌-◌, ◌*◌, ◌/◌, ◌%◌, ◌<◌, ◌≤◌, true, ℕ, List as Items, All, map, length, take, drop, slice_index, IfOk, IfSome};
 ghost use Rattle.definitions_blocks.specs.Words.{word_of};
 ghost use Rattle.definitions_blocks.specs.Blocks.{block_values, block_at};
 ghost use Rattle.definitions_blocks.specs.Columns.{IsColumn, max_rows};
@@ -165,6 +165,19 @@ impl Column {
         ensures { result ≡ slice_index self.now.values place }
     {
         number_at(rest_from(self.bytes.as_slice(), HEAD_LEN), place as usize)
+    }
+
+    /// The values of a plain column at places, as the first of `found`.
+    pub(crate) fn words(&self, places: &[u64], found: &mut [u64])
+        requires plain { format_of self.now.format ≡ plain }
+        requires within { All (λ place. place < length self.now.values) places.now }
+        requires room { length places.now ≤ length found.old }
+        ensures values { take (length places.now) found.new ≡ map (λ place. slice_index self.now.values place) places.now }
+        ensures length { length found.new ≡ length found.old }
+    {
+        for index in 0..places.len() {
+            found[index] = self.word(places[index]);
+        }
     }
 
     /// A value of a whole block, which is not decoded for it. There is none in the formats that give no value cheaper than all.

@@ -1,8 +1,8 @@
 //! A column of which values are looked up by their places.
 
-ghost use Rattle.std.specs.Prelude.{◌≡◌, ◌/◌, ◌<◌, ◌≤◌, length, slice_index};
+ghost use Rattle.std.specs.Prelude.{◌≡◌, ◌+◌, ◌/◌, ◌<◌, ◌≤◌, All, map, length, take, slice_index};
 ghost use Rattle.definitions_blocks.specs.Blocks.{block_values, block_at};
-ghost use Rattle.block_core.specs.Counts.{next_count};
+ghost use Rattle.block_core.specs.Counts.{next_count, later_count};
 
 use crate::columns::Column;
 use block_core::{BLOCK_LEN, Block, Format, PlaceSource, Steps};
@@ -10,6 +10,12 @@ use std::marker::Model;
 
 /// If one value in so many is asked for, picking them costs about as much as decoding the block.
 const SPARSE: u64 = 16;
+
+/// The same of a block of runs, of which a part is read for each pick.
+const SPARSE_RUNS: u64 = 32;
+
+/// The same of differences to the value 16 places before, of which up to 64 are added up for each pick.
+const SPARSE_DELTA16: u64 = 128;
 
 /// The minimum of values that are picked from a block before it is decoded.
 const MIN_PICKS: u64 = 8;
@@ -50,6 +56,34 @@ impl<'a, const L: usize> Gather<'a, L> {
             picked: 0,
             picks: 0,
         }
+    }
+
+    /// The values at places, as the first of `found`, in any format but `plain`.
+    fn values(&mut self, places: &[u64], found: &mut [u64])
+        requires within { All (λ place. place < length self.old) places.now }
+        requires room { length places.now ≤ length found.old }
+        ensures values { take (length places.now) found.new ≡ map (λ place. slice_index self.old place) places.now }
+        ensures length { length found.new ≡ length found.old }
+        ensures list { self.new ≡ self.old }
+    {
+        for index in 0..places.len() {
+            found[index] = self.value(places[index]);
+        }
+    }
+
+    /// The value at a place, from the block that is held if it is there.
+    #[inline(always)]
+    fn value(&mut self, place: u64) -> u64
+        requires { place < length self.old }
+        ensures value { result ≡ slice_index self.old place }
+        ensures list { self.new ≡ self.old }
+    {
+        let number = place / BLOCK_LEN as u64;
+        let offset = place % BLOCK_LEN as u64;
+        if self.held == number {
+            return self.block.as_slice()[offset as usize];
+        }
+        self.find(place)
     }
 
     /// The value at a place whose block is not held. It is a call of its own, so that a look-up in the block that is held, or in a
@@ -94,11 +128,22 @@ impl<'a, const L: usize> Gather<'a, L> {
             self.picked = number;
             self.picks = 0;
         }
-        if self.picks >= MIN_PICKS && self.picks > place / SPARSE {
+        if self.picks >= MIN_PICKS && self.picks > place / self.sparse() {
             return false;
         }
         self.picks += 1;
         true
+    }
+
+    /// If one value in so many is asked for, picking them costs about as much as decoding the block. It is at least 16.
+    fn sparse(&self) -> u64
+        ensures { 16 ≤ result }
+    {
+        match self.column.format() {
+            Format::Runs => SPARSE_RUNS,
+            Format::Delta16Dynamic => SPARSE_DELTA16,
+            _ => SPARSE,
+        }
     }
 }
 
@@ -119,14 +164,32 @@ impl<'a, const L: usize> PlaceSource for Gather<'a, L> {
         ensures steps { steps.new ≤ next_count steps.old }
     {
         steps.tick();
-        let number = place / BLOCK_LEN as u64;
-        let offset = place % BLOCK_LEN as u64;
-        if self.held == number {
-            return self.block.as_slice()[offset as usize];
-        }
         match self.column.format() {
             Format::Plain => self.column.word(place),
-            _ => self.find(place),
+            _ => self.value(place),
         }
+    }
+
+    // The format is looked at once.
+    fn look_up<'b, G>(
+        &mut self,
+        places: &[u64],
+        found: &'b mut [u64],
+        steps: &mut Steps<G>,
+    ) -> &'b [u64]
+        requires within { All (λ place. place < length self.old) places.now }
+        requires room { length places.now ≤ length found.old }
+        ensures values { result.now ≡ map (λ place. slice_index self.old place) places.now }
+        ensures list { self.new ≡ self.old }
+        ensures counted { steps.new ≡ later_count steps.old (length places.now) }
+        ensures later { steps.old ≤ steps.new }
+        ensures steps { steps.new ≤ steps.old + length places.now }
+    {
+        steps.tick_by(places.len() as u64);
+        match self.column.format() {
+            Format::Plain => self.column.words(places, found),
+            _ => self.values(places, found),
+        }
+        &found[..places.len()]
     }
 }

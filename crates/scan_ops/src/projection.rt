@@ -45,30 +45,10 @@ pub fn project_fly<V: PlaceSource, P: BlockSource, O: Emit, G>(
     let count = places.count();
     for number in 0..count.div_ceil(BLOCK_LEN as u64) {
         places.block(number, &mut block, steps);
-        let piece = look_up(values, block.as_slice(), &mut found, steps);
+        let piece = values.look_up(block.as_slice(), &mut found, steps);
         out.extend(piece)?;
     }
     Ok(())
-}
-
-/// The values at the places of a block, in the front of `found`.
-fn look_up<'a, V: PlaceSource, G>(
-    values: &mut V,
-    places: &[u64],
-    found: &'a mut [u64],
-    steps: &mut Steps<G>,
-) -> &'a [u64]
-    requires within { All (λ place. place < length (V.list values.old)) places.now }
-    requires room { length places.now ≤ length found.old }
-    ensures values { result.now ≡ values_at (V.list values.old) places.now }
-    ensures kept { V.list values.new ≡ V.list values.old }
-    ensures later { steps.old ≤ steps.new }
-    ensures steps { steps.new ≤ steps.old + length places.now }
-{
-    for index in 0..places.len() {
-        found[index] = values.value_at(places[index], steps);
-    }
-    &found[..places.len()]
 }
 
 #[cfg(test)]

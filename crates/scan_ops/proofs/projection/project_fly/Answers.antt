@@ -88,7 +88,7 @@ loop-number-preserved g c =
     let here : length c.as_slice.result.now ≡ length (block_at places number) = ap length block in
     let after : c.look_up-piece.new.steps ≤ c.loop-number.steps + 1 + 1 * length (block_at places number) = omega (arith, c.look_up-piece.ensures.steps, c.block.ensures.steps, here) in
     record {
-      kept_values = c.look_up-piece.ensures.kept ∙ c.loop-number.invariant.kept_values;
+      kept_values = c.look_up-piece.ensures.list ∙ c.loop-number.invariant.kept_values;
       kept_places = c.block.ensures.list ∙ c.loop-number.invariant.kept_places;
       emitted = subst (g.O.Emit.pushed c.extend.new.self) next (c.in_ok-extend.ensures.ok before c.loop-number.invariant.emitted);
       frame = c.in_ok-extend.ensures.frame ∙ c.loop-number.invariant.frame;

@@ -2,7 +2,7 @@ use Rattle.std.proofs.Common.{◌≡◌, ◌*◌, ◌/◌, ◌%◌, ◌<◌, ℕ
 use Rattle.std.proofs.lemmas.List.{length-take, length-drop}
 use Rattle.definitions_blocks.specs.Blocks.{block_values, block_at}
 use Rattle.column_core.proofs.BlockAtLemmas.{block_at-index}
-use Rattle.column_core.proofs.gathers.GatherPlaceSource.value_at.Goals as goal
+use Rattle.column_core.proofs.gathers.Gather.value.Goals as goal
 
 -- the block that is held
 held_is : (held number : ℕ) (kept values slice : List ℕ) → held ≡ number → kept ≡ values → number * block_values < length values
