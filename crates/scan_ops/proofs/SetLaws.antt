@@ -88,7 +88,7 @@ union-least x (y ∷ left) right above =
     ap (with_number y) (union-least x left right (All-tail (λ y. x < y) y left above))
     ∙ with_number-later x y (union left right) (All-head (λ y. x < y) y left above)
 
-with_number-All : (P : ℕ → Type 0) (x : ℕ) (ys : List ℕ) → P x → All P ys → All P (with_number x ys)
+pub with_number-All : (P : ℕ → Type 0) (x : ℕ) (ys : List ℕ) → P x → All P ys → All P (with_number x ys)
 with_number-All P x [] p all = All-cons P x [] p all
 with_number-All P x (y ∷ ys) p all =
     let head = All-head P y ys all in

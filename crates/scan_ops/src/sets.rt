@@ -12,10 +12,10 @@ use stream_core::List;
 
 /// How many numbers were used of two lists, and how many were written.
 #[derive(Clone, Copy)]
-struct Used {
-    left: usize,
-    right: usize,
-    kept: usize,
+pub(crate) struct Used {
+    pub left: usize,
+    pub right: usize,
+    pub kept: usize,
 }
 
 /// The numbers that stand in both lists.
@@ -31,7 +31,7 @@ pub fn intersect(alloc: Global, left: &[u64], right: &[u64]) -> Result<List<u64>
 }
 
 /// Writes the numbers of both lists to the front of `out`, until one of the lists is used up.
-fn meet(left: &[u64], right: &[u64], out: &mut [u64]) -> Used
+pub(crate) fn meet(left: &[u64], right: &[u64], out: &mut [u64]) -> Used
     requires room { min (length left.now) (length right.now) ≤ length out.old }
     ensures ended { (result.left ≡ length left.now) ⊎ (result.right ≡ length right.now) }
     ensures left { result.left ≤ length left.now }
@@ -73,7 +73,7 @@ pub fn union_of(alloc: Global, left: &[u64], right: &[u64]) -> Result<List<u64>,
 }
 
 /// Writes the numbers of either list to the front of `out`, until one of the lists is used up, or `out` is full.
-fn merge(left: &[u64], right: &[u64], out: &mut [u64]) -> Used
+pub(crate) fn merge(left: &[u64], right: &[u64], out: &mut [u64]) -> Used
     ensures ended { (result.left ≡ length left.now) ⊎ (result.right ≡ length right.now) ⊎ (result.kept ≡ length out.old) }
     ensures left { result.left ≤ length left.now }
     ensures right { result.right ≤ length right.now }
