@@ -1,0 +1,4 @@
+pub mod ZipLaws
+pub mod CellLaws
+pub mod HalfLaws
+pub mod EmitLaws
