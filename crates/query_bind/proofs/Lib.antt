@@ -14,4 +14,5 @@ mod TableLaws
 mod ConditionLaws
 mod SelectionLaws
 mod BindingLaws
+mod StageLaws
 pub mod BindingExamples

@@ -7,3 +7,4 @@ pub mod Views
 pub mod LawfulBindings
 pub mod Orders
 pub mod Needed
+pub mod Stages

@@ -8,14 +8,16 @@ ghost use Rattle.catalog_core.specs.LawfulSchemas.{IsSchema};
 ghost use Rattle.query_text.specs.Views.{word_view, words_view, query_view};
 ghost use Rattle.query_bind.specs.Binding.{column_of, join_to, joins_of, dimensions_of, bound_of};
 ghost use Rattle.query_bind.specs.LawfulBindings.{IsBinding};
+ghost use Rattle.query_bind.specs.Stages.{listed_view, listed_among, listed_of, bound_in};
 ghost use Rattle.query_bind.specs.Steps.{AnswersAs};
 ghost use Rattle.query_bind.specs.Views.{bound_view};
 
-use crate::bounds::{Bound, JoinTo};
+use crate::bounds::{Bound, Item, JoinTo, OrderKey, SumOf};
 use crate::column_index::ColumnIndex;
 use crate::conditions::conditions_of;
 use crate::errors::BindError;
 use crate::mentions::check_columns;
+use crate::name_maps::NameMap;
 use crate::selection::{groups_of, items_of, order_of};
 use crate::tables::{fact_of, tables_of};
 use catalog_core::{ColumnId, Schema};
@@ -86,6 +88,81 @@ fn columns_named(
     Ok(columns)
 }
 
+/// What GROUP BY, SELECT and ORDER BY say.
+#[derive(Drop)]
+struct Listed {
+    groups: Vec<ColumnId>,
+    sums: Vec<SumOf>,
+    items: Vec<Item>,
+    order: Vec<OrderKey>,
+}
+
+/// The items of SELECT and the keys of ORDER BY, once the names of GROUP BY have their numbers.
+fn listed_among(
+    alloc: Global,
+    index: &ColumnIndex,
+    groups: &NameMap<u32>,
+    query: &Query,
+) -> Result<Listed, BindError>
+    requires { entries (query_view query.now) ≤ max_entries }
+    ensures { AnswersAs listed_view (listed_among index.now (query_view query.now) groups.now) result }
+{
+    let selected = items_of(alloc, index, groups, query.items.as_slice())?;
+    let order = order_of(alloc, groups, &selected.aliases, query.order.as_slice())?;
+    let columns = columns_named(alloc, index, query.groups.as_slice())?;
+    Ok(Listed {
+        groups: columns,
+        sums: selected.sums,
+        items: selected.items,
+        order,
+    })
+}
+
+/// The columns of GROUP BY, the items of SELECT and the keys of ORDER BY.
+fn listed_of(alloc: Global, index: &ColumnIndex, query: &Query) -> Result<Listed, BindError>
+    requires { entries (query_view query.now) ≤ max_entries }
+    ensures { AnswersAs listed_view (listed_of index.now (query_view query.now)) result }
+{
+    let groups = groups_of(alloc, query.groups.as_slice())?;
+    listed_among(alloc, index, &groups, query)
+}
+
+/// The steps from the columns on, once the tables of FROM are known. They stand apart, as do those of the lists, so that few values are
+/// let go at each exit: the check of one function with all exits took minutes.
+fn bound_in(
+    alloc: Global,
+    query: &Query,
+    index: &ColumnIndex,
+    fact: u32,
+    tables: &[u32],
+) -> Result<Bound, BindError>
+    requires count { length query.now.tables ≡ length tables.now }
+    requires few { entries (query_view query.now) ≤ max_entries }
+    ensures { AnswersAs bound_view (bound_in index.now (query_view query.now) tables.now fact) result }
+{
+    check_columns(index, tables, query)?;
+    let conditions = conditions_of(alloc, index, fact, query.conditions.as_slice())?;
+    let joins = joins_of(
+        alloc,
+        fact,
+        conditions.joins.as_slice(),
+        query.tables.as_slice(),
+        tables,
+    )?;
+    let listed = listed_of(alloc, index, query)?;
+    let dimensions = dimensions_of(alloc, fact, tables)?;
+    Ok(Bound {
+        fact,
+        dimensions: List::from_vec(dimensions),
+        joins: List::from_vec(joins),
+        conditions: List::from_vec(conditions.tests),
+        groups: List::from_vec(listed.groups),
+        sums: List::from_vec(listed.sums),
+        items: List::from_vec(listed.items),
+        order: List::from_vec(listed.order),
+    })
+}
+
 /// What a query says of the tables of a schema, or its first refusal, in the order of the steps: the tables of FROM, the fact table,
 /// the columns that are named, the conditions, missing joins, GROUP BY and SELECT, and ORDER BY.
 ///
@@ -100,28 +177,5 @@ pub fn bind(alloc: Global, query: &Query, schema: &Schema) -> Result<Bound, Bind
     let tables = tables_of(alloc, schema, query.tables.as_slice())?;
     let fact = fact_of(schema, query.tables.as_slice(), tables.as_slice())?;
     let index = ColumnIndex::new(alloc, schema)?;
-    check_columns(&index, tables.as_slice(), query)?;
-    let conditions = conditions_of(alloc, &index, fact, query.conditions.as_slice())?;
-    let joins = joins_of(
-        alloc,
-        fact,
-        conditions.joins.as_slice(),
-        query.tables.as_slice(),
-        tables.as_slice(),
-    )?;
-    let groups = groups_of(alloc, query.groups.as_slice())?;
-    let selected = items_of(alloc, &index, &groups, query.items.as_slice())?;
-    let order = order_of(alloc, &groups, &selected.aliases, query.order.as_slice())?;
-    let dimensions = dimensions_of(alloc, fact, tables.as_slice())?;
-    let columns = columns_named(alloc, &index, query.groups.as_slice())?;
-    Ok(Bound {
-        fact,
-        dimensions: List::from_vec(dimensions),
-        joins: List::from_vec(joins),
-        conditions: List::from_vec(conditions.tests),
-        groups: List::from_vec(columns),
-        sums: List::from_vec(selected.sums),
-        items: List::from_vec(selected.items),
-        order: List::from_vec(order),
-    })
+    bound_in(alloc, query, &index, fact, tables.as_slice())
 }

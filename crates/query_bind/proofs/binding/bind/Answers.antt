@@ -1,19 +1,15 @@
-use Rattle.std.proofs.Common.{rules}
 use Rattle.query_text.specs.Views.{query_view}
-use Rattle.query_bind.specs.Binding.{bound_of}
-use Rattle.query_bind.specs.Views.{bound_view}
-use Rattle.query_bind.proofs.AccumulateLemmas.{wanting}
-use Rattle.query_bind.proofs.BindingLaws.{binding_lawful}
+use Rattle.query_bind.proofs.StageLaws.{bound_is, answer_lawful}
 use Rattle.query_bind.proofs.binding.bind.Goals as goal
 
--- memory was refused at the end
-pub returns-in_err-columns-clause-bound : goal.returns-in_err-columns-clause-bound
-returns-in_err-columns-clause-bound c =
-    wanting bound_view (bound_of c.args.schema.now (query_view c.args.query.now)) c.from_residual-in_err-columns.result c.from_residual-in_err-columns.ensures.1
-
+-- the tables are known, and the rest is the steps from the columns on
 pub returns-clause-bound : goal.returns-clause-bound
-returns-clause-bound c = search rules
+returns-clause-bound c =
+    let whole = bound_is c.args.schema.now (query_view c.args.query.now) c.in_ok-tables.tables.items c.in_ok-fact.fact
+    (rw c.as_slice.ensures at c.in_ok-tables.ensures.tables)
+    (rw (c.as_slice-2.ensures, c.as_slice-3.ensures.value) at c.in_ok-fact.ensures) in
+    rw whole (rw (c.in_ok-index.ensures, c.as_slice-4.ensures.value) at c.bound_in.ensures)
 
 -- what the steps gave is lawful
 pub returns-clause-lawful : goal.returns-clause-lawful
-returns-clause-lawful c = λ spelled. binding_lawful c.args.schema.now (query_view c.args.query.now) _ spelled c.requires.few (returns-clause-bound c)
+returns-clause-lawful c = answer_lawful c.args.schema.now (query_view c.args.query.now) c.bound_in.result c.requires.few (returns-clause-bound c)
