@@ -1,0 +1,6 @@
+pub mod KeyLaws
+pub mod DenseLaws
+pub mod DirectLaws
+pub mod JoinLaws
+pub mod MeaningLaws
+pub mod HandingLaws

@@ -1,0 +1,41 @@
+use Rattle.std.proofs.Common.{◌≡◌, ◌∙◌, ℕ, ◌+◌, ◌*◌, ◌≤◌, ◌<◌, ◌++◌, All, ap, sym, subst, arith, take, List}
+use Rattle.std.proofs.lemmas.List.{take_all}
+use Rattle.std.proofs.lemmas.List.Elements.{All-weaker}
+use Rattle.definitions_blocks.specs.Blocks.{block_values, block_at}
+use Rattle.definitions_operators.specs.Operators.{has}
+use Rattle.scan_ops.proofs.ProjectLaws.{take-next, All-block}
+use Rattle.join_ops.proofs.KeyLaws.{same-append}
+use Rattle.join_ops.proofs.key_sets.dense_of.Goals as goal
+
+pub add_all-requires : goal.add_all-requires
+add_all-requires g c =
+    let keys = g.S.BlockSource.list c.args.keys.now in
+    let number = c.loop-number.number in
+    let is : c.as_slice.result.now ≡ block_at keys number = c.as_slice.ensures.values ∙ c.block.ensures.values ∙ ap (λ (l : List ℕ). block_at l number) c.loop-number.invariant.kept in
+    let room = c.loop-number.invariant.room in
+    subst (All (λ key. (c.loop-number.set.low ≤ key) × (key + 1 < c.loop-number.set.low + c.loop-number.set.len))) (sym is)
+    (All-weaker (λ key. (c.args.range.low ≤ key) × (key ≤ c.args.range.high)) (λ key. (c.loop-number.set.low ≤ key) × (key + 1 < c.loop-number.set.low + c.loop-number.set.len))
+    (λ key inside. (omega (arith, inside.0, room.0), omega (arith, inside.0, inside.1, room.0, room.1))) (block_at keys number)
+    (All-block (λ key. (c.args.range.low ≤ key) × (key ≤ c.args.range.high)) number keys c.requires.within))
+
+pub loop-number-preserved : goal.loop-number-preserved
+loop-number-preserved g c =
+    let keys = g.S.BlockSource.list c.args.keys.now in
+    let number = c.loop-number.number in
+    let is : c.as_slice.result.now ≡ block_at keys number = c.as_slice.ensures.values ∙ c.block.ensures.values ∙ ap (λ (l : List ℕ). block_at l number) c.loop-number.invariant.kept in
+    let joined : take (number * block_values) keys ++ c.as_slice.result.now ≡ take ((number + 1) * block_values) keys = ap (λ (l : List ℕ). take (number * block_values) keys ++ l) is ∙ take-next number keys in
+    record {
+      kept = c.block.ensures.list ∙ c.loop-number.invariant.kept;
+      added = λ key. c.add_all.ensures.keys key ∙ same-append c.loop-number.set.keys (take (number * block_values) keys) c.as_slice.result.now c.loop-number.invariant.added key
+          ∙ ap (λ (l : List ℕ). has l key) joined;
+      room = (c.add_all.ensures.room.0 ∙ c.loop-number.invariant.room.0, c.add_all.ensures.room.1 ∙ c.loop-number.invariant.room.1);
+      later = omega (arith, c.loop-number.invariant.later, c.block.ensures.later);
+      steps = omega (arith, c.loop-number.invariant.steps, c.block.ensures.steps);
+    }
+
+pub returns-clause-keys : goal.returns-clause-keys
+returns-clause-keys g c = record {
+  same = λ key. c.loop-number.invariant.added key
+      ∙ ap (λ (l : List ℕ). has l key) (take_all (c.loop-number.number * block_values) (g.S.BlockSource.list c.args.keys.now) (omega (arith, c.loop-number-test.false, c.div_ceil-number-end.ensures, c.count.ensures.count)));
+  distinct = c.tell.ensures;
+}

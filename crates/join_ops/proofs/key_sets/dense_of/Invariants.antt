@@ -1,0 +1,14 @@
+-- the keys of the blocks so far were added
+use Rattle.std.proofs.Common.{◌≡◌, ◌+◌, ◌-◌, ◌*◌, ◌≤◌, take}
+use Rattle.definitions_blocks.specs.Blocks.{block_values}
+use Rattle.join_ops.specs.KeySets.{HaveSameKeys}
+use Rattle.join_ops.proofs.key_sets.dense_of.Given as goal
+
+abbrev pub invariant-loop-number : goal.invariant-loop-number
+invariant-loop-number g l = record {
+  kept : g.S.BlockSource.list l.keys ≡ g.S.BlockSource.list l.fn.keys;
+  added : HaveSameKeys l.set.keys (take (l.number * block_values) (g.S.BlockSource.list l.fn.keys));
+  room : (l.set.low ≡ l.fn.range.low) × (l.set.len ≡ (l.fn.range.high - l.fn.range.low) + 2);
+  later : l.fn.steps ≤ l.steps;
+  steps : l.steps ≤ l.fn.steps + l.number;
+}
