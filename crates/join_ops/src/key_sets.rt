@@ -16,7 +16,7 @@ use std::marker::Model;
 
 /// How the keys of a set are kept.
 #[derive(Drop)]
-enum Keys {
+pub(crate) enum Keys {
     Dense(DenseSet),
     Chained(ChainedKeys),
 }
@@ -24,7 +24,7 @@ enum Keys {
 /// Keys, each once. They are a table of one byte a value if there are at most 32 values a key from the least to the greatest, and a chain otherwise.
 #[derive(Drop)]
 pub struct KeySet {
-    keys: Keys,
+    pub(crate) keys: Keys,
 }
 
 impl Model for KeySet {
