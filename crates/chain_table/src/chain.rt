@@ -1,6 +1,6 @@
 //! Entries by their keys, in chains by bucket.
 
-ghost use Rattle.std.specs.Prelude.{◌≡◌, ℕ, ◌+◌, ◌*◌, ◌^◌, ◌<◌, ◌≤◌, ◌++◌, ◌∷◌, [], length, replicate, slice_index, vec_len, vec_capacity, IfOk, OnOk, OnErr, MatchOption};
+ghost use Rattle.std.specs.Prelude.{◌≡◌, ℕ, ◌+◌, ◌-◌, ◌*◌, ◌^◌, ◌<◌, ◌≤◌, ◌++◌, ◌∷◌, [], length, replicate, slice_index, vec_len, vec_capacity, IfOk, OnOk, OnErr, MatchOption};
 ghost use Rattle.chain_table.specs.Entries.{entries_of, IsNewestBelow};
 ghost use Rattle.chain_table.specs.Buckets.{bucket_of, IsLink, IsChained, IsBegun};
 
@@ -9,6 +9,12 @@ use std::marker::Model;
 
 /// An odd number near 2^64 divided by the golden ratio. The high bits of its products are well mixed (Knuth's multiplicative hashing).
 const MIXER: u64 = 0x9E37_79B9_7F4A_7C15;
+
+/// How many mixers are tried at most.
+const MIXERS: usize = 4;
+
+/// A bucket is crowded if it has more than so many entries, each with another key than the next. With well mixed keys there is hardly ever one.
+const CROWD: usize = 16;
 
 /// Entries of a key and a value, in the order in which they came. Keys may repeat.
 ///
@@ -25,8 +31,8 @@ pub struct Chain {
     older: Vec<u32>,
     /// What keys are multiplied with.
     mixer: u64,
-    /// One less than the number of buckets, a power of two.
-    mask: u64,
+    /// How many bits of a product do not tell the bucket: there are 2^(64 - shift) buckets.
+    shift: u32,
     room: u32,
 }
 
@@ -40,7 +46,7 @@ impl Model for Chain {
 
     ghost use Rattle.std.specs.Prelude.{◌≤◌, vec_capacity};
 
-    ghost invariant = { λ chain. IsChained chain.mixer chain.mask chain.heads.items chain.keys.items chain.values.items chain.older.items chain.room
+    ghost invariant = { λ chain. IsChained chain.mixer chain.shift chain.heads.items chain.keys.items chain.values.items chain.older.items chain.room
         × (chain.room ≤ vec_capacity chain.keys) × (chain.room ≤ vec_capacity chain.values) × (chain.room ≤ vec_capacity chain.older) };
 }
 
@@ -55,7 +61,7 @@ impl Chain {
             values: Vec::new(alloc),
             older: Vec::new(alloc),
             mixer: MIXER,
-            mask: 0,
+            shift: 60,
             room: 0,
         }
     }
@@ -76,14 +82,14 @@ impl Chain {
         requires { count ≤ 268435456 }
         ensures { IfOk result (λ chain. chain ≡ entries_of [] [] count) }
     {
-        let mask = mask_for(count);
+        let shift = shift_for(count);
         Ok(Chain {
-            heads: zeros(alloc, mask as usize + 1)?,
+            heads: zeros(alloc, bucket_count(shift))?,
             keys: Vec::with_capacity(alloc, count as usize)?,
             values: Vec::with_capacity(alloc, count as usize)?,
             older: Vec::with_capacity(alloc, count as usize)?,
             mixer: MIXER,
-            mask,
+            shift,
             room: count,
         })
     }
@@ -94,7 +100,7 @@ impl Chain {
         requires { length self.old.keys < self.old.room }
         ensures { self.new ≡ entries_of (self.old.keys ++ key ∷ []) (self.old.values ++ value ∷ []) self.old.room }
     {
-        let bucket = bucket_of(key, self.mixer, self.mask) as usize;
+        let bucket = bucket_of(key, self.mixer, self.shift) as usize;
         let entry = self.keys.len() as u32;
         let newest = self.heads[bucket];
         push_word(&mut self.keys, key);
@@ -103,18 +109,42 @@ impl Chain {
         self.heads[bucket] = entry + 1;
     }
 
-    /// Puts the entries into buckets by another mixer, as for keys that all fall into few. It takes no memory, and goes over all buckets and entries.
-    pub fn spread(&mut self)
+    /// Puts the entries into buckets by another mixer if a bucket is crowded, as for keys that were chosen to fall into one. Of four mixers at most it
+    /// takes the one by which the fewest entries stand in a crowd. It takes no memory, and goes over all entries once, and over all buckets and
+    /// entries for each further mixer.
+    pub fn balance(&mut self)
+        ensures { self.new ≡ self.old }
+    {
+        let mut best = self.mixer;
+        let mut least = crowded(self.keys.as_slice(), self.older.as_slice());
+        for _ in 1..MIXERS {
+            if least == 0 {
+                return;
+            }
+            self.link_by(self.mixer.wrapping_mul(MIXER));
+            let count = crowded(self.keys.as_slice(), self.older.as_slice());
+            if count < least {
+                best = self.mixer;
+                least = count;
+            }
+        }
+        if least > 0 {
+            self.link_by(best);
+        }
+    }
+
+    /// Puts the entries into buckets by a mixer.
+    fn link_by(&mut self, mixer: u64)
         ensures { self.new ≡ self.old }
     {
         if self.keys.is_empty() {
             return;
         }
-        self.mixer = self.mixer.wrapping_mul(MIXER);
+        self.mixer = mixer;
         clear(self.heads.as_mut_slice());
         relink(
             self.mixer,
-            self.mask,
+            self.shift,
             self.keys.as_slice(),
             self.heads.as_mut_slice(),
             self.older.as_mut_slice(),
@@ -126,13 +156,13 @@ impl Chain {
     pub fn first(&self, key: u64) -> Option<u32>
         ensures { IsNewestBelow self.now.keys key (length self.now.keys) result }
     {
-        let link = head_of(
+        let link = link_at(
             self.heads.as_slice(),
-            bucket_of(key, self.mixer, self.mask) as usize,
+            bucket_of(key, self.mixer, self.shift) as usize,
         );
         entry_of(matching(
             self.mixer,
-            self.mask,
+            self.shift,
             self.keys.as_slice(),
             self.older.as_slice(),
             key,
@@ -150,7 +180,7 @@ impl Chain {
         let link = self.older[entry as usize];
         entry_of(matching(
             self.mixer,
-            self.mask,
+            self.shift,
             self.keys.as_slice(),
             self.older.as_slice(),
             self.keys[entry as usize],
@@ -173,14 +203,14 @@ impl Chain {
 #[inline]
 fn matching(
     _mixer: u64,
-    _mask: u64,
+    _shift: u32,
     keys: &[u64],
     older: &[u32],
     key: u64,
     _bound: usize,
     from: u32,
 ) -> u32
-    requires { IsBegun _mixer _mask keys.now older.now key _bound from }
+    requires { IsBegun _mixer _shift keys.now older.now key _bound from }
     ensures { IsLink keys.now key _bound result }
 {
     let mut link = from;
@@ -190,17 +220,27 @@ fn matching(
     link
 }
 
-/// One less than a power of two that is at least 16 and at least four times the count.
-fn mask_for(count: u32) -> u64
-    ensures { result < 2 ^ 62 }
+/// The greatest shift by which there are at least 16 buckets, and at least four times the count.
+fn shift_for(count: u32) -> u32
+    ensures some { 0 < result }
+    ensures few { result < 64 }
 {
-    let mut mask = 15;
-    for _ in 0..32 {
-        if mask < 4 * u64::from(count) {
-            mask = 2 * mask + 1;
+    let mut shift = 60;
+    for bits in 4..34 {
+        if 1 << bits < 4 * u64::from(count) {
+            shift = 63 - bits;
         }
     }
-    mask
+    shift
+}
+
+/// How many buckets there are with a shift.
+fn bucket_count(shift: u32) -> usize
+    requires some { 0 < shift }
+    requires few { shift < 64 }
+    ensures { result ≡ 2 ^ (64 - shift) }
+{
+    1 << (64 - shift)
 }
 
 /// So many links to nothing.
@@ -221,17 +261,18 @@ fn clear(links: &mut [u32])
 }
 
 /// Links all entries anew, in buckets of which none has an entry yet.
-fn relink(mixer: u64, mask: u64, keys: &[u64], heads: &mut [u32], older: &mut [u32])
-    requires sized { length heads.old ≡ mask + 1 }
+fn relink(mixer: u64, shift: u32, keys: &[u64], heads: &mut [u32], older: &mut [u32])
+    requires shifts { shift < 64 }
+    requires sized { length heads.old ≡ 2 ^ (64 - shift) }
     requires none { (bucket : ℕ) → slice_index heads.old bucket ≡ 0 }
     requires linked { length older.old ≡ length keys.now }
     requires few { length keys.now < 2 ^ 32 }
     ensures size { length heads.new ≡ length heads.old }
     ensures long { length older.new ≡ length older.old }
-    ensures links { IsChained mixer mask heads.new keys.now keys.now older.new (length keys.now) }
+    ensures links { IsChained mixer shift heads.new keys.now keys.now older.new (length keys.now) }
 {
     for entry in 0..keys.len() {
-        let bucket = bucket_of(keys[entry], mixer, mask) as usize;
+        let bucket = bucket_of(keys[entry], mixer, shift) as usize;
         older[entry] = heads[bucket];
         heads[bucket] = entry as u32 + 1;
     }
@@ -257,12 +298,12 @@ fn push_link(list: &mut Vec<u32>, value: u32)
     let _ = list.push(value);
 }
 
-/// The head of a bucket, 0 if no room was made.
+/// The link at a place, 0 behind all links.
 #[inline]
-fn head_of(heads: &[u32], bucket: usize) -> u32
-    ensures { result ≡ slice_index heads.now bucket }
+fn link_at(links: &[u32], place: usize) -> u32
+    ensures { result ≡ slice_index links.now place }
 {
-    match heads.get(bucket) {
+    match links.get(place) {
         Some(link) => *link,
         None => 0,
     }
@@ -278,11 +319,34 @@ fn entry_of(link: u32) -> Option<u32>
 
 /// The bucket of a key.
 #[inline]
-fn bucket_of(key: u64, mixer: u64, mask: u64) -> u64
-    ensures bucket { result ≡ bucket_of mixer mask key }
-    ensures within { result ≤ mask }
+fn bucket_of(key: u64, mixer: u64, shift: u32) -> u64
+    requires { shift < 64 }
+    ensures bucket { result ≡ bucket_of mixer shift key }
+    ensures within { result < 2 ^ (64 - shift) }
 {
-    key.wrapping_mul(mixer) >> 32 & mask
+    key.wrapping_mul(mixer) >> shift
+}
+
+/// How many entries stand in a crowd.
+fn crowded(keys: &[u64], older: &[u32]) -> usize {
+    let mut count = 0;
+    for entry in 0..keys.len() {
+        count += usize::from(is_crowded(keys, older, entry));
+    }
+    count
+}
+
+/// Whether so many older entries stand in an entry's bucket, each with another key than the one before.
+fn is_crowded(keys: &[u64], older: &[u32], entry: usize) -> bool {
+    let mut newer = entry;
+    for _ in 0..CROWD {
+        let link = link_at(older, newer) as usize;
+        if link == 0 || keys.get(link - 1) == keys.get(newer) {
+            return false;
+        }
+        newer = link - 1;
+    }
+    true
 }
 
 #[cfg(test)]
@@ -290,7 +354,6 @@ mod tests {
     use super::*;
     use std::test::Fail;
 
-    /// All keys but the last fall into the first bucket, since their products are multiples of 2^36.
     #[test]
     fn walks_meet_one_key_newest_first(rt: HostRuntime) -> Result<(), Fail> {
         let mut chain = Chain::new(rt.alloc());
@@ -298,24 +361,48 @@ mod tests {
         chain.reserve(5)?;
         assert_eq!(rt; chain.first(0), None, "no entries yet");
         chain.insert(0, 10);
-        chain.insert(1 << 36, 11);
+        chain.insert(FOE, 11);
         chain.insert(0, 12);
-        chain.insert(u64::MAX << 36, 13);
+        chain.insert(u64::MAX, 13);
         chain.insert(0, 14);
-        let first = chain.first(0);
-        assert_eq!(rt; first, Some(4), "the newest of three");
+        assert_eq!(rt; chain.first(0), Some(4), "the newest of three");
         assert_eq!(rt; chain.next_of(4), Some(2), "the one before");
         assert_eq!(rt; chain.next_of(2), Some(0), "the oldest");
         assert_eq!(rt; chain.next_of(0), None, "none before");
-        assert_eq!(rt; chain.first(u64::MAX << 36), Some(3), "a key of one entry");
+        assert_eq!(rt; chain.first(u64::MAX), Some(3), "a key of one entry");
         assert_eq!(rt; chain.next_of(3), None, "no other entry of that key");
-        assert_eq!(rt; chain.first(1 << 40), None, "a key of the same bucket");
+        assert_eq!(rt; chain.first(FOE), Some(1), "another key of the bucket");
+        assert_eq!(rt;
+            chain.first(FOE.wrapping_mul(2)),
+            None,
+            "a key of the bucket that is not there"
+        );
         assert_eq!(rt; chain.first(7), None, "a key of another bucket");
         assert_eq!(rt; chain.value(3), 13, "the value of an entry");
-        chain.spread();
-        assert_eq!(rt; chain.first(0), Some(4), "the newest in another bucket");
-        assert_eq!(rt; chain.next_of(4), Some(2), "the one before, there");
-        assert_eq!(rt; chain.first(1 << 36), Some(1), "the other key");
+        Ok(())
+    }
+
+    /// The inverse of the mixer: products with its multiples are small numbers, which all fall into the first bucket.
+    const FOE: u64 = 0xF1DE_83E1_9937_733D;
+
+    #[test]
+    fn keys_that_crowd_are_told_apart_by_another_mixer(rt: HostRuntime) -> Result<(), Fail> {
+        let mut chain = Chain::new(rt.alloc());
+        chain.reserve(100)?;
+        for factor in 0..100 {
+            chain.insert(FOE.wrapping_mul(factor), factor);
+        }
+        let before = crowded(chain.keys.as_slice(), chain.older.as_slice());
+        assert_eq!(rt; before, 84, "all but the first 16 entries stand in a crowd");
+        chain.balance();
+        let after = crowded(chain.keys.as_slice(), chain.older.as_slice());
+        assert_eq!(rt; after, 0, "none does by another mixer");
+        assert_eq!(rt; chain.first(FOE), Some(1), "an entry is found there");
+        assert_eq!(rt;
+            chain.first(FOE.wrapping_mul(100)),
+            None,
+            "a key that is not there"
+        );
         Ok(())
     }
 }

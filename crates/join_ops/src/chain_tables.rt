@@ -38,6 +38,7 @@ impl ChainTable {
             let place = count - 1 - index;
             chain.insert(keys[place], place as u64);
         }
+        chain.balance();
         Ok(ChainTable {
             chain,
             count: count as u32,

@@ -51,6 +51,16 @@ impl ChainedKeys {
         }
     }
 
+    /// Takes other buckets if many keys fell into one. It looks only after 1, 2, 4 and so on blocks, so all looks together cost no more than a few over
+    /// all keys.
+    pub fn balance_after(&mut self, blocks: u64)
+        ensures { self.new ≡ self.old }
+    {
+        if blocks.is_power_of_two() {
+            self.chain.balance();
+        }
+    }
+
     /// Adds a key, unless it is there.
     fn add(&mut self, key: u64)
         requires { length self.old.keys < self.old.room }

@@ -103,7 +103,7 @@ fn dense_of<S: BlockSource, G>(
     Ok(set)
 }
 
-/// The keys in a chain.
+/// The keys in a chain. It is balanced each time that its list is twice as long, so that keys which were chosen to fall into one bucket are told soon.
 fn chain_of<S: BlockSource, G>(
     alloc: Global,
     keys: &mut S,
@@ -120,6 +120,7 @@ fn chain_of<S: BlockSource, G>(
     for number in 0..count.div_ceil(BLOCK_LEN as u64) {
         keys.block(number, &mut block, steps);
         set.add_all(block.as_slice());
+        set.balance_after(number + 1);
     }
     set.tell();
     Ok(set)

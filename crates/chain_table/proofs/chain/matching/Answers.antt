@@ -7,7 +7,7 @@ pub loop-link-init : goal.loop-link-init
 loop-link-init c = record {
   within = c.requires.starts.within;
   bucket = c.requires.starts.here;
-  newest = λ entry from upto. other_bucket c.args._mixer c.args._mask c.args.keys.now c.args.key entry (omega (arith, c.requires.within)) (c.requires.starts.newest entry from upto);
+  newest = λ entry from upto. other_bucket c.args._mixer c.args._shift c.args.keys.now c.args.key entry (omega (arith, c.requires.within)) (c.requires.starts.newest entry from upto);
 }
 
 pub loop-link-preserved : goal.loop-link-preserved
@@ -18,6 +18,6 @@ loop-link-preserved c =
     record {
       within = omega (arith, is.within, c.loop-link.invariant.within);
       bucket = λ entry e. is.here entry e ∙ bucket;
-      newest = newest-older c.args._mixer c.args._mask c.args.keys.now c.args.key c.args._bound c.loop-link.link (slice_index c.args.older.now at) c.requires.within (omega arith)
+      newest = newest-older c.args._mixer c.args._shift c.args.keys.now c.args.key c.args._bound c.loop-link.link (slice_index c.args.older.now at) c.requires.within (omega arith)
           c.loop-link.invariant.within bucket c.if-keys-link.true is c.loop-link.invariant.newest;
     }

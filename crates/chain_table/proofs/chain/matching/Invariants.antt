@@ -7,7 +7,7 @@ use Rattle.chain_table.proofs.chain.matching.Given as goal
 abbrev pub invariant-loop-link : goal.invariant-loop-link
 invariant-loop-link l = record {
   within : l.link ≤ l.fn._bound;
-  bucket : (entry : ℕ) → entry + 1 ≡ l.link → slice_index (buckets_of l.fn._mixer l.fn._mask l.keys) entry ≡ bucket_of l.fn._mixer l.fn._mask l.key;
+  bucket : (entry : ℕ) → entry + 1 ≡ l.link → slice_index (buckets_of l.fn._mixer l.fn._shift l.keys) entry ≡ bucket_of l.fn._mixer l.fn._shift l.key;
   newest : (entry : ℕ) → l.link ≤ entry → entry < l.fn._bound → slice_index l.keys entry ≢ l.key;
 }
 

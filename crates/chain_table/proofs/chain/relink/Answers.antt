@@ -7,7 +7,7 @@ pub loop-entry-init : goal.loop-entry-init
 loop-entry-init c = record {
   size = refl;
   long = refl;
-  links = IsChained-none c.args.mixer c.args.mask c.args.heads.now (length c.args.keys.now) c.requires.none (λ some. c.requires.sized) c.requires.few;
+  links = IsChained-none c.args.mixer c.args.shift c.args.heads.now (length c.args.keys.now) c.requires.none (λ some. c.requires.sized) c.requires.few c.requires.shifts;
 }
 
 pub loop-entry-preserved : goal.loop-entry-preserved
@@ -19,7 +19,7 @@ loop-entry-preserved c =
     record {
       size = length-set heads bucket (n + 1) ∙ c.loop-entry.invariant.size;
       long = length-set older n (get_or heads bucket 0) ∙ c.loop-entry.invariant.long;
-      links = IsChained-next c.args.mixer c.args.mask heads c.args.keys.now older n bucket (get_or heads bucket 0) (omega arith) (c.loop-entry.invariant.long ∙ c.requires.linked)
+      links = IsChained-next c.args.mixer c.args.shift heads c.args.keys.now older n bucket (get_or heads bucket 0) (omega arith) (c.loop-entry.invariant.long ∙ c.requires.linked)
           c.bucket_of-bucket.ensures.bucket refl c.loop-entry.invariant.links;
     }
 
@@ -29,5 +29,5 @@ returns-clause-links c =
     let n = c.loop-entry.entry in
     let all : take n keys ≡ keys = take_all n keys (omega arith) in
     let links : take n c.loop-entry.older ≡ c.loop-entry.older = take_all n c.loop-entry.older (omega (arith, c.loop-entry.invariant.long, c.requires.linked)) in
-    IsChained-same c.args.mixer c.args.mask c.loop-entry.heads c.loop-entry.heads (take n keys) keys (take n keys) keys (take n c.loop-entry.older) c.loop-entry.older (length keys)
+    IsChained-same c.args.mixer c.args.shift c.loop-entry.heads c.loop-entry.heads (take n keys) keys (take n keys) keys (take n c.loop-entry.older) c.loop-entry.older (length keys)
     refl (sym all) (sym all) (sym links) c.loop-entry.invariant.links

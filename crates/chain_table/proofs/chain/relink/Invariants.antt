@@ -7,5 +7,5 @@ abbrev pub invariant-loop-entry : goal.invariant-loop-entry
 invariant-loop-entry l = record {
   size : length l.heads ≡ length l.fn.heads;
   long : length l.older ≡ length l.fn.older;
-  links : IsChained l.mixer l.mask l.heads (take l.entry l.keys) (take l.entry l.keys) (take l.entry l.older) (length l.keys);
+  links : IsChained l.mixer l.shift l.heads (take l.entry l.keys) (take l.entry l.keys) (take l.entry l.older) (length l.keys);
 }

@@ -22,10 +22,10 @@ loop-number-preserved g c =
     let joined : take (number * block_values) keys ++ c.as_slice.result.now ≡ take ((number + 1) * block_values) keys = ap (λ (l : List ℕ). take (number * block_values) keys ++ l) is ∙ take-next number keys in
     record {
       kept = c.block.ensures.list ∙ c.loop-number.invariant.kept;
-      added = λ key. c.add_all.ensures.keys key ∙ same-append c.loop-number.set.keys (take (number * block_values) keys) c.as_slice.result.now c.loop-number.invariant.added key
+      added = λ key. ap (λ s. has s.keys key) c.balance_after.ensures ∙ c.add_all.ensures.keys key ∙ same-append c.loop-number.set.keys (take (number * block_values) keys) c.as_slice.result.now c.loop-number.invariant.added key
           ∙ ap (λ (l : List ℕ). has l key) joined;
-      few = omega (arith, c.add_all.ensures.few, c.loop-number.invariant.few, ap length is, taken-block number keys);
-      room = c.add_all.ensures.room ∙ c.loop-number.invariant.room;
+      few = omega (arith, ap (λ s. length s.keys) c.balance_after.ensures, c.add_all.ensures.few, c.loop-number.invariant.few, ap length is, taken-block number keys);
+      room = ap (λ s. s.room) c.balance_after.ensures ∙ c.add_all.ensures.room ∙ c.loop-number.invariant.room;
       later = omega (arith, c.loop-number.invariant.later, c.block.ensures.later);
       steps = omega (arith, c.loop-number.invariant.steps, c.block.ensures.steps);
     }

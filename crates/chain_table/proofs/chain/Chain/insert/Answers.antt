@@ -9,7 +9,7 @@ use Rattle.chain_table.proofs.chain.Chain.insert.Goals as goal
 pub invariant_of-self : goal.invariant_of-self
 invariant_of-self c =
     let it = c.self.inside in
-    let bucket = bucket_of it.mixer it.mask c.args.key in
+    let bucket = bucket_of it.mixer it.shift c.args.key in
     let at : c.bucket_of-bucket.result ≡ bucket = c.bucket_of-bucket.ensures.bucket in
     let long : c.len-entry.result + 1 ≡ length it.keys.items + 1 = ap (λ n. n + 1) (c.len-entry.ensures ∙ it.keys.ok.0) in
     let heads : set it.heads.items c.bucket_of-bucket.result (c.len-entry.result + 1) ≡ set it.heads.items bucket (length it.keys.items + 1) =
@@ -19,11 +19,11 @@ invariant_of-self c =
     let within : c.bucket_of-bucket.result < length it.heads.items = omega (arith, c.bucket_of-bucket.ensures.within, c.self.invariant.0.sized (omega arith)) in
     let newest : c.index-newest.result.now ≡ slice_index it.heads.items c.bucket_of-bucket.result =
     get_or_read it.heads.items c.bucket_of-bucket.result c.index-newest.result.now within c.index-newest.ensures 0 in (
-      IsChained-same it.mixer it.mask (set it.heads.items bucket (length it.keys.items + 1)) (set it.heads.items c.bucket_of-bucket.result (c.len-entry.result + 1))
+      IsChained-same it.mixer it.shift (set it.heads.items bucket (length it.keys.items + 1)) (set it.heads.items c.bucket_of-bucket.result (c.len-entry.result + 1))
           (it.keys.items ++ c.args.key ∷ []) c.push_word.new.list.items (it.values.items ++ c.args.value ∷ []) c.push_word-2.new.list.items
           (it.older.items ++ slice_index it.heads.items bucket ∷ []) c.push_link.new.list.items it.room heads c.push_word.ensures.items c.push_word-2.ensures.items
           (c.push_link.ensures.items ∙ ap (λ n. it.older.items ++ n ∷ []) (newest ∙ link))
-          (IsChained-insert it.mixer it.mask it.heads.items it.keys.items it.values.items it.older.items it.room c.args.key c.args.value c.self.invariant.0 some),
+          (IsChained-insert it.mixer it.shift it.heads.items it.keys.items it.values.items it.older.items it.room c.args.key c.args.value c.self.invariant.0 some),
       omega (arith, c.push_word.ensures.room, c.self.invariant.1),
       omega (arith, c.push_word-2.ensures.room, c.self.invariant.2),
       omega (arith, c.push_link.ensures.room, c.self.invariant.3),
