@@ -3,4 +3,5 @@ pub mod DenseLaws
 pub mod DirectLaws
 pub mod JoinLaws
 pub mod MeaningLaws
+pub mod DistinctLaws
 pub mod HandingLaws

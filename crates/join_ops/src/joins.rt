@@ -7,7 +7,8 @@ ghost use Rattle.definitions_operators.specs.Operators.{places_of, join};
 ghost use Rattle.scan_ops.specs.Batches.{HoldsWith};
 ghost use Rattle.join_ops.specs.Joins.{left_places, right_places, lefts_of, lefts_from, rights_from, MayTake, HoldsFront};
 
-use crate::key_maps::KeyMap;
+use crate::distinct_joins::join_distinct;
+use crate::key_maps::{KeyMap, Table};
 use block_core::{BLOCK_LEN, Block, BlockSource, Emit, Steps};
 use scan_ops::Batch;
 use std::alloc::AllocError;
@@ -15,6 +16,40 @@ use std::alloc::AllocError;
 /// Emits, for each place of the probe, rising, and each place of its value among the keys, rising, the two places. It decodes one block of the probe at
 /// a time, and takes a step for it and one for each value. There must be at most 268,435,456 pairs, as `join_fits` says.
 pub fn join_fly<S: BlockSource, A: Emit, B: Emit, G>(
+    probe: &mut S,
+    keys: &KeyMap,
+    left: &mut A,
+    right: &mut B,
+    steps: &mut Steps<G>,
+) -> Result<(), AllocError>
+    requires few { length (join (S.list probe.old) keys.now) ≤ max_rows }
+    requires left_empty { A.pushed left.old [] }
+    requires right_empty { B.pushed right.old [] }
+    requires left_scope { A.scope (A.frame left.old) (left_places (S.list probe.old) keys.now) ≡ true }
+    requires right_scope { B.scope (B.frame right.old) (right_places (S.list probe.old) keys.now) ≡ true }
+    ensures left_ok { OnOk result (A.pushed left.new (left_places (S.list probe.old) keys.now)) }
+    ensures right_ok { OnOk result (B.pushed right.new (right_places (S.list probe.old) keys.now)) }
+    ensures left_err { OnErr result ((n : ℕ) × A.pushed left.new (take n (left_places (S.list probe.old) keys.now))) }
+    ensures right_err { OnErr result ((n : ℕ) × B.pushed right.new (take n (right_places (S.list probe.old) keys.now))) }
+    ensures sure { A.room (A.frame left.old) (left_places (S.list probe.old) keys.now) ≡ true
+        → B.room (B.frame right.old) (right_places (S.list probe.old) keys.now) ≡ true → IsOk result }
+    ensures left_frame { A.frame left.new ≡ A.frame left.old }
+    ensures right_frame { B.frame right.new ≡ B.frame right.old }
+    ensures kept { S.list probe.new ≡ S.list probe.old }
+    ensures later { steps.old ≤ steps.new }
+    ensures steps { steps.new ≤ steps.old + block_count (S.list probe.old) + length (S.list probe.old) }
+{
+    if !keys.is_distinct() {
+        return join_repeating(probe, keys, left, right, steps);
+    }
+    match &keys.table {
+        Table::Direct(table) => join_distinct(probe, table, left, right, steps),
+        Table::Chained(table) => join_distinct(probe, table, left, right, steps),
+    }
+}
+
+/// Emits the pairs of a join whose keys may repeat.
+fn join_repeating<S: BlockSource, A: Emit, B: Emit, G>(
     probe: &mut S,
     keys: &KeyMap,
     left: &mut A,

@@ -1,10 +1,12 @@
 //! Maps from keys to their places.
 
-ghost use Rattle.std.specs.Prelude.{◌≡◌, ℕ, ◌+◌, ◌^◌, ◌<◌, ◌≤◌, ◌++◌, [], All, length, reverse, take, slice_index, MatchOption, IfOk};
+ghost use Rattle.std.specs.Prelude.{◌≡◌, ℕ, ◌+◌, ◌^◌, ◌<◌, ◌≤◌, ◌++◌, [], true, All, length, reverse, take, slice_index, MatchOption, IfOk};
 ghost use Rattle.definitions_blocks.specs.Columns.{max_rows};
 ghost use Rattle.block_core.specs.Counts.{next_count};
 ghost use Rattle.definitions_operators.specs.Costs.{block_count};
 ghost use Rattle.join_ops.specs.KeyMaps.{IsNextFrom, IsNextLink};
+ghost use Rattle.join_ops.specs.KeySets.{AreDistinct};
+ghost use Rattle.join_ops.specs.KeysOf.{keys_by_place};
 
 use crate::chain_tables::ChainTable;
 use crate::direct_tables::DirectTable;
@@ -15,25 +17,55 @@ use std::marker::Model;
 
 /// How the keys of a map are kept.
 #[derive(Drop)]
-enum Table {
+pub(crate) enum Table {
     Direct(DirectTable),
     Chained(ChainTable),
+}
+
+impl Table {
+    /// A link to the first place of a key.
+    #[inline(always)]
+    fn first_link(&self, key: u64) -> u32
+        ensures { IsNextLink (keys_by_place self.now) key 0 result }
+    {
+        match self {
+            Table::Direct(table) => table.first_link(key),
+            Table::Chained(table) => table.first_link(key),
+        }
+    }
+
+    /// A link to the next place with the key of a place.
+    #[inline(always)]
+    fn next_link(&self, place: u32) -> u32
+        requires { place < length (keys_by_place self.now) }
+        ensures { IsNextLink (keys_by_place self.now) (slice_index (keys_by_place self.now) place) (place + 1) result }
+    {
+        match self {
+            Table::Direct(table) => table.next_link(place),
+            Table::Chained(table) => table.next_link(place),
+        }
+    }
 }
 
 /// A list of keys, which may repeat, and for each key its places. They are a table by value if there are at most 32 values a key from the least to the
 /// greatest, and a chain otherwise, in which the last place was entered first, so that walks rise. The entries of a map are numbered by their places.
 #[derive(Drop)]
 pub struct KeyMap {
-    table: Table,
+    pub(crate) table: Table,
+    /// If this is set, no key stands twice.
+    distinct: bool,
 }
 
 impl Model for KeyMap {
-    ghost use Rattle.std.specs.Prelude.{List, ℕ};
+    ghost use Rattle.std.specs.Prelude.{◌≡◌, true, List, ℕ};
     ghost use Rattle.join_ops.specs.KeysOf.{keys_by_place};
+    ghost use Rattle.join_ops.specs.KeySets.{AreDistinct};
 
     ghost Value = { List ℕ };
 
     ghost view = { λ map. keys_by_place map.table };
+
+    ghost invariant = { λ map. map.distinct ≡ true → AreDistinct (keys_by_place map.table) };
 }
 
 impl KeyMap {
@@ -99,10 +131,7 @@ impl KeyMap {
     pub(crate) fn first_link(&self, key: u64) -> u32
         ensures { IsNextLink self.now key 0 result }
     {
-        match &self.table {
-            Table::Direct(table) => table.first_link(key),
-            Table::Chained(table) => table.first_link(key),
-        }
+        self.table.first_link(key)
     }
 
     /// A link to the next place with the key of a place.
@@ -111,10 +140,15 @@ impl KeyMap {
         requires { place < length self.now }
         ensures { IsNextLink self.now (slice_index self.now place) (place + 1) result }
     {
-        match &self.table {
-            Table::Direct(table) => table.next_link(place),
-            Table::Chained(table) => table.next_link(place),
-        }
+        self.table.next_link(place)
+    }
+
+    /// Whether it is known that no key stands twice.
+    #[inline(always)]
+    pub(crate) fn is_distinct(&self) -> bool
+        ensures { result ≡ true → AreDistinct self.now }
+    {
+        self.distinct
     }
 }
 
@@ -152,15 +186,34 @@ fn map_of(alloc: Global, keys: Vec<u64>) -> Result<KeyMap, AllocError>
     requires few { length keys.items ≤ max_rows }
     ensures { IfOk result (λ map. map ≡ keys.items) }
 {
+    let count = keys.len() as u32;
+    let table = table_of(alloc, keys)?;
+    let distinct = are_distinct(&table, count);
+    Ok(KeyMap { table, distinct })
+}
+
+fn table_of(alloc: Global, keys: Vec<u64>) -> Result<Table, AllocError>
+    requires few { length keys.items ≤ max_rows }
+    ensures { IfOk result (λ table. keys_by_place table ≡ keys.items) }
+{
     let range = range_in(keys.as_slice());
     if range.is_dense(keys.len() as u64) {
         let table = DirectTable::of(alloc, keys, range)?;
-        return Ok(KeyMap {
-            table: Table::Direct(table),
-        });
+        return Ok(Table::Direct(table));
     }
     let table = ChainTable::of(alloc, keys.as_slice())?;
-    Ok(KeyMap {
-        table: Table::Chained(table),
-    })
+    Ok(Table::Chained(table))
+}
+
+/// Whether no key of a table of so many places stands twice.
+fn are_distinct(table: &Table, count: u32) -> bool
+    requires { count ≡ length (keys_by_place table.now) }
+    ensures { result ≡ true → AreDistinct (keys_by_place table.now) }
+{
+    for place in 0..count {
+        if table.next_link(place) > 0 {
+            return false;
+        }
+    }
+    true
 }

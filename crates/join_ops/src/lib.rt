@@ -5,6 +5,7 @@ mod chain_tables;
 mod chained_keys;
 mod dense_sets;
 mod direct_tables;
+mod distinct_joins;
 mod fits;
 mod joins;
 mod key_maps;

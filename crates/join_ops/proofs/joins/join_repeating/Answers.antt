@@ -6,7 +6,7 @@ use Rattle.join_ops.specs.Joins.{left_places, right_places, lefts_from, rights_f
 use Rattle.join_ops.proofs.HandingLaws.{front_prefix, front_held}
 use Rattle.join_ops.proofs.JoinLaws.{join-lengths}
 use Rattle.join_ops.proofs.MeaningLaws.{lefts-are, rights-are, pairs-count}
-use Rattle.join_ops.proofs.joins.join_fly.Goals as goal
+use Rattle.join_ops.proofs.joins.join_repeating.Goals as goal
 
 pub join_blocks-requires-clause-few : goal.join_blocks-requires-clause-few
 join_blocks-requires-clause-few g c =
