@@ -13,12 +13,15 @@ const MIXER: u64 = 0x9E37_79B9_7F4A_7C15;
 /// How many mixers are tried at most.
 const MIXERS: usize = 4;
 
-/// A bucket is crowded if it has more than so many entries, each with another key than the next. With well mixed keys there is hardly ever one.
+/// A bucket is crowded if the key changes so often along its entries. With well mixed keys there is hardly ever one.
 const CROWD: usize = 16;
+
+/// How many older entries of a bucket are looked at.
+const LOOKED_AT: usize = 64;
 
 /// Entries of a key and a value, in the order in which they came. Keys may repeat.
 ///
-/// An entry takes 36 to 52 bytes: 8 for its key, 8 for its value, 4 for a link, and 16 to 32 for the heads of buckets, of which there are at least
+/// An entry takes 36 to 52 bytes, from four entries on: 8 for its key, 8 for its value, 4 for a link, and 16 to 32 for the heads of buckets, of which there are at least
 /// four an entry. A look-up takes a multiplication, the head of a bucket, and a comparison for each entry in it: 1.25 at most on average if the keys are
 /// different and well mixed, and as many as there are entries if all keys fall into one bucket.
 #[derive(Drop)]
@@ -336,17 +339,24 @@ fn crowded(keys: &[u64], older: &[u32]) -> usize {
     count
 }
 
-/// Whether so many older entries stand in an entry's bucket, each with another key than the one before.
+/// Whether the key changes so often along the older entries of an entry's bucket. Only so many of them are looked at.
 fn is_crowded(keys: &[u64], older: &[u32], entry: usize) -> bool {
     let mut newer = entry;
-    for _ in 0..CROWD {
+    let mut changes = 0;
+    for _ in 0..LOOKED_AT {
         let link = link_at(older, newer) as usize;
-        if link == 0 || keys.get(link - 1) == keys.get(newer) {
+        if link == 0 {
             return false;
+        }
+        if keys.get(link - 1) != keys.get(newer) {
+            changes += 1;
+        }
+        if changes == CROWD {
+            return true;
         }
         newer = link - 1;
     }
-    true
+    false
 }
 
 #[cfg(test)]

@@ -1,6 +1,6 @@
 //! The table that numbers groups.
 
-ghost use Rattle.std.specs.Prelude.{◌≡◌, ◌<◌, not, [], length, IfOk, OnOk, OnErr};
+ghost use Rattle.std.specs.Prelude.{◌≡◌, ◌≤◌, not, [], IfOk, OnOk, OnErr};
 ghost use Rattle.std.specs.List.{list_any};
 ghost use Rattle.block_core.specs.Counts.{next_count};
 ghost use Rattle.definitions_operators.specs.Groups.{with_item};
@@ -12,7 +12,7 @@ use std::alloc::{AllocError, Global};
 use std::marker::Model;
 
 /// Pairs of an earlier group and a value, numbered in the order in which they came first. It keeps its allocator. A pair takes 16 bytes, and its place in
-/// a hash table some ten more.
+/// a hash table 15 to 22 more.
 #[derive(Drop)]
 pub struct GroupTable {
     pairs: IndexSet<(u64, u64)>,
@@ -66,6 +66,7 @@ impl GroupTable {
         ensures pairs { OnOk result (self.new ≡ with_item same_pair self.old (before, value)) }
         ensures unchanged { OnErr result (self.new ≡ self.old) }
         ensures steps { steps.new ≡ next_count steps.old }
+        ensures later { steps.old ≤ steps.new }
     {
         steps.tick();
         self.probe(before, value)

@@ -9,7 +9,7 @@ use scan_ops::PlaceTest;
 use std::alloc::{AllocError, Global};
 use std::marker::Model;
 
-/// Keys from `low` on: the byte at a key's distance from `low` is 1. The last byte is 0, and stands for each value behind.
+/// Keys from `low` on: the byte at a key's distance from `low` is 1. The last byte is 0, and is read for every value outside the table.
 #[derive(Drop)]
 pub struct DenseSet {
     low: u64,
@@ -28,7 +28,7 @@ impl Model for DenseSet {
 }
 
 impl DenseSet {
-    /// No keys, and room for those from `low` on, so many but one.
+    /// No keys, and room for the `len - 1` values from `low` on.
     pub fn none(alloc: Global, low: u64, len: usize) -> Result<DenseSet, AllocError>
         requires some { 0 < len }
         requires fits { low + len < 2 ^ 64 + 1 }

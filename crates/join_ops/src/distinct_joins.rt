@@ -41,7 +41,7 @@ impl FirstLinks for DirectTable {
     }
 }
 
-/// Emits the pairs of a join whose keys are distinct, so that it walks along none.
+/// Emits the pairs of a join whose keys are distinct, so no walk is needed.
 pub(crate) fn join_distinct<T: FirstLinks, S: BlockSource, A: Emit, B: Emit, G>(
     probe: &mut S,
     table: &T,

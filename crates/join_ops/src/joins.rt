@@ -81,7 +81,7 @@ fn join_repeating<S: BlockSource, A: Emit, B: Emit, G>(
     Ok(())
 }
 
-/// The pairs of all blocks, of which the last ones wait.
+/// The pairs of all blocks. The last of them are still in the batches.
 fn join_blocks<S: BlockSource, A: Emit, B: Emit, G>(
     probe: &mut S,
     keys: &KeyMap,

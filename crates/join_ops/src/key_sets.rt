@@ -103,7 +103,7 @@ fn dense_of<S: BlockSource, G>(
     Ok(set)
 }
 
-/// The keys in a chain. It is balanced each time that its list is twice as long, so that keys which were chosen to fall into one bucket are told soon.
+/// The keys in a chain. It is balanced each time that its list is twice as long, so that keys which were chosen to fall into one bucket are noticed soon, and once at the end.
 fn chain_of<S: BlockSource, G>(
     alloc: Global,
     keys: &mut S,
@@ -122,6 +122,7 @@ fn chain_of<S: BlockSource, G>(
         set.add_all(block.as_slice());
         set.balance_after(number + 1);
     }
+    set.balance_after(1);
     set.tell();
     Ok(set)
 }

@@ -115,7 +115,7 @@ impl Sums {
 
     /// Tells a proof what cells are, and costs nothing.
     #[inline(always)]
-    pub(crate) fn tell_cells(&self)
+    pub fn tell_cells(&self)
         ensures { AreCells self.now }
     {
         let _cells = self.cells.as_slice();

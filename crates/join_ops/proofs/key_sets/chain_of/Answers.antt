@@ -32,7 +32,7 @@ loop-number-preserved g c =
 
 pub returns-clause-keys : goal.returns-clause-keys
 returns-clause-keys g c = record {
-  same = λ key. c.loop-number.invariant.added key
+  same = λ key. ap (λ s. has s.keys key) c.balance_after-2.ensures ∙ c.loop-number.invariant.added key
       ∙ ap (λ (l : List ℕ). has l key) (take_all (c.loop-number.number * block_values) (g.S.BlockSource.list c.args.keys.now) (omega (arith, c.loop-number-test.false, c.div_ceil-number-end.ensures, c.count-count.ensures.count)));
   distinct = c.tell.ensures;
 }
