@@ -11,7 +11,7 @@ SECONDS = 0.03  # a case that takes less time has more rounds
 
 def processor():
     """The processor that both programs are built for: the script's word, or x86-64-v2."""
-    return sys.argv[1] if len(sys.argv) > 1 else "x86-64-v2"
+    return sys.argv[1] if len(sys.argv) > 1 and not sys.argv[1].startswith("--") else "x86-64-v2"
 
 
 def own_program(folder, crate):
@@ -39,7 +39,7 @@ def timed(command):
     return time.perf_counter() - begin, done.stdout
 
 
-def enough_rounds(command, fewest):
+def enough_rounds(command, fewest, timed):
     """How many rounds take long enough to be timed."""
     rounds = fewest
     while timed(command(rounds))[0] - timed(command(0))[0] < SECONDS and rounds < 2**24:
@@ -47,11 +47,11 @@ def enough_rounds(command, fewest):
     return rounds
 
 
-def per_round(commands, fewest=1):
+def per_round(commands, fewest=1, timed=timed, turns=TURNS):
     """Nanoseconds a round of each command, a function of its rounds: the least of several turns, less the time of none."""
-    rounds_of = {name: enough_rounds(command, fewest) for name, command in commands.items()}
+    rounds_of = {name: enough_rounds(command, fewest, timed) for name, command in commands.items()}
     least = {}
-    for _ in range(TURNS):
+    for _ in range(turns):
         for name, command in commands.items():
             for rounds in (0, rounds_of[name]):
                 wall, _ = timed(command(rounds))
