@@ -9,14 +9,14 @@
 // select, project, intersect, union: loops in which no branch depends on a value, as on the other side.
 // semi_join, join: WAY is `chain`, a table of heads and links as `chain_table` has; `std`, std::unordered_set and std::unordered_map;
 //   or `table`, one by value, for keys that lie close together.
-// semi_build, join_build: makes that table from a list of keys. It takes memory on both sides.
+// semi_build, join_build: makes that table from a list of keys. It takes memory on both sides; `bench/operators` sees that memory which
+//   is given back stays in the process, so that no fresh pages are touched.
 // group, refine: a table of indices in a power of two of places, at most half full, looked up by multiplication and a shift, and then
 //   place by place. It starts small and doubles, and each round begins with a new one, on both sides.
 // sum, sum_product: lanes, the halves of words added apart, as on the other side. sum_by, sum_product_by: a cell of 128 bits a group.
 #include "blocks.hpp"
 #include <cstdio>
 #include <cstdlib>
-#include <malloc.h>
 #include <string>
 #include <unordered_map>
 #include <unordered_set>
@@ -310,7 +310,7 @@ typedef std::pair<uint64_t, uint64_t> Pair;
 struct Pairs {
     std::vector<Pair> pairs;
 
-    uint64_t hash(Pair pair) const { return (pair.first * FAR ^ pair.second) * MIXER; }
+    uint64_t hash(Pair pair) const { return (pair.first * 0x9E3779B1 + pair.second) * MIXER; }
     bool same(uint32_t index, Pair pair) const { return pairs[index] == pair; }
     void push(Pair pair) { pairs.push_back(pair); }
     uint64_t hash_of(size_t index) const { return hash(pairs[index]); }
@@ -319,8 +319,8 @@ struct Pairs {
 
 template <class Items> struct GroupTable {
     Items items;
-    Links places = Links(16); // one more than an index, or 0
-    int shift = 60;
+    Links places = Links(256); // one more than an index, or 0
+    int shift = 56;
 
     void grow() {
         shift--;
@@ -545,9 +545,6 @@ uint64_t checksum(const Work &work, const std::string &way) {
 
 int main(int count, char **words) {
     if (count < 7) return 2;
-    // memory that is given back is kept for the next round
-    mallopt(M_TRIM_THRESHOLD, 1 << 30);
-    mallopt(M_MMAP_THRESHOLD, 1 << 30);
     const Work work{words[1], strtoull(words[3], nullptr, 10), strtoull(words[4], nullptr, 10), strtoull(words[5], nullptr, 10), count > 7};
     printf("%llu\n", (unsigned long long)checksum(work, words[6]));
 }

@@ -39,17 +39,17 @@ def timed(command):
     return time.perf_counter() - begin, done.stdout
 
 
-def enough_rounds(command, fewest, timed):
+def enough_rounds(command, fewest, timed, seconds):
     """How many rounds take long enough to be timed."""
     rounds = fewest
-    while timed(command(rounds))[0] - timed(command(0))[0] < SECONDS and rounds < 2**24:
+    while timed(command(rounds))[0] - timed(command(0))[0] < seconds and rounds < 2**24:
         rounds *= 2
     return rounds
 
 
-def per_round(commands, fewest=1, timed=timed, turns=TURNS):
+def per_round(commands, fewest=1, timed=timed, turns=TURNS, seconds=SECONDS):
     """Nanoseconds a round of each command, a function of its rounds: the least of several turns, less the time of none."""
-    rounds_of = {name: enough_rounds(command, fewest, timed) for name, command in commands.items()}
+    rounds_of = {name: enough_rounds(command, fewest, timed, seconds) for name, command in commands.items()}
     least = {}
     for _ in range(turns):
         for name, command in commands.items():
